@@ -1,0 +1,6 @@
+pub mod Sets
+pub mod Literal
+pub mod Program
+pub mod Stable
+pub mod Cost
+pub mod Tables

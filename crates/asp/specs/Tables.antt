@@ -1,0 +1,113 @@
+-- From tables of numbers to programs: what the code's tables mean. Assumes nothing: these are definitions.
+use mathlib.Core.Path.{_≡_}
+use mathlib.Core.Bool.{Bool, true, false}
+use mathlib.Core.List.{List, [], _∷_}
+use Prim.Native.Nat.{ℕ, zero, suc, _+_, _*_, _≤_, _<_}
+use lib.Dec.{eqb}
+use lib.IntN.{ℤ, pos, negsuc, natAbs}
+use lib.ListN.{length, getD}
+use Rattle.asp.specs.Sets.{pick}
+use Rattle.asp.specs.Program.{Literal, Body, normal, Head, constraint, plain, choice, Rule, Entry, Symbol, Program, All, RuleIn}
+
+-- f at the k places from i on
+unfoldable pub span : {A : Type 0} → (ℕ → A) → ℕ → ℕ → List A
+span f i zero = []
+span f i (suc k) = f i ∷ span f (i + 1) k
+
+-- the k literals of a pool from i on
+abbrev pub literalsAt : List ℤ → ℕ → ℕ → List Literal
+literalsAt pool i k = span (λ (j : ℕ). getD pool j (pos 0)) i k
+
+-- the atom that a positive literal names; 0, which is none, for a negative one
+abbrev pub named : ℤ → ℕ
+named (pos a) = a
+named (negsuc a) = 0
+
+abbrev pub atomsAt : List ℤ → ℕ → ℕ → List ℕ
+atomsAt pool i k = span (λ (j : ℕ). named (getD pool j (pos 0))) i k
+
+-- a row of four numbers in a table of rows (of u16)
+pub record Row : Type 0 where
+  pub a : ℕ
+  pub b : ℕ
+  pub c : ℕ
+  pub d : ℕ
+
+abbrev pub rowAt : List ℕ → ℕ → Row
+rowAt t r = record { a = getD t (r * 4) 0; b = getD t (r * 4 + 1) 0; c = getD t (r * 4 + 2) 0; d = getD t (r * 4 + 3) 0 }
+
+-- ---- rules: a pool of literals, in which each rule has its head atoms and then its body; and a row for each rule:
+-- a: 1 for a choice, 0 for a plain head; b: its first place in the pool; c: how many head atoms; d: how many body literals
+
+abbrev pub plainHead : List ℕ → Head
+plainHead [] = constraint
+plainHead (h ∷ hs) = plain h
+
+abbrev pub headAt : List ℤ → Row → Head
+headAt pool r = pick (eqb (r .a) 1) (choice (atomsAt pool (r .b) (r .c))) (plainHead (atomsAt pool (r .b) (r .c)))
+
+abbrev pub bodyAt : List ℤ → Row → Body
+bodyAt pool r = normal (literalsAt pool (r .b + r .c) (r .d))
+
+abbrev pub ruleAt : List ℤ → Row → Rule
+ruleAt pool r = record { head = headAt pool r; body = bodyAt pool r }
+
+-- the first `count` rules
+abbrev pub rulesOf : List ℤ → List ℕ → ℕ → List Rule
+rulesOf pool rows count = span (λ (r : ℕ). ruleAt pool (rowAt rows r)) 0 count
+
+-- a row's places are in the pool, and a plain head has one atom at most
+pub record RowIn (pool : List ℤ) (r : Row) : Type 0 where
+  pub inside : r .b + r .c + r .d ≤ length pool
+  pub single : (r .a ≡ 1 → ⊥) → r .c ≤ 1
+
+-- well-formed tables of rules over the atoms 1 to n
+pub record Formed (n : ℕ) (pool : List ℤ) (rows : List ℕ) (count : ℕ) : Type 0 where
+  pub few : n ≤ 1024
+  pub long : count * 4 ≤ length rows
+  pub row : (r : ℕ) → r < count → RowIn pool (rowAt rows r)
+  pub atoms : All (RuleIn n) (rulesOf pool rows count)
+
+-- ---- entries: a table of priorities, one of literals and one of weights
+
+abbrev pub entryAt : List ℤ → List ℤ → List ℕ → ℕ → Entry
+entryAt priorities literals weights i = record { priority = getD priorities i (pos 0); literal = getD literals i (pos 0); weight = getD weights i 0 }
+
+abbrev pub entriesOf : List ℤ → List ℤ → List ℕ → ℕ → List Entry
+entriesOf priorities literals weights count = span (entryAt priorities literals weights) 0 count
+
+-- ---- symbols: the text, a pool of condition literals, and a row for each symbol:
+-- a: the first byte of its name in the text; b: how many bytes; c: its first place in the pool; d: how many literals
+
+abbrev pub symbolAt : List ℕ → List ℤ → Row → Symbol
+symbolAt text pool r = record { name = span (λ (j : ℕ). getD text j 0) (r .a) (r .b); condition = literalsAt pool (r .c) (r .d) }
+
+abbrev pub symbolsOf : List ℕ → List ℤ → List ℕ → ℕ → List Symbol
+symbolsOf text pool rows count = span (λ (i : ℕ). symbolAt text pool (rowAt rows i)) 0 count
+
+-- ---- all tables, each with how far it is filled
+
+pub record Tables : Type 0 where
+  pub text : List ℕ
+  pub pool : List ℤ
+  pub rules : List ℕ
+  pub rulecount : ℕ
+  -- the priorities of the levels, highest first
+  pub levels : List ℤ
+  pub levelcount : ℕ
+  pub priorities : List ℤ
+  pub literals : List ℤ
+  pub weights : List ℕ
+  pub entrycount : ℕ
+  pub conditions : List ℤ
+  pub symbols : List ℕ
+  pub symbolcount : ℕ
+
+-- the program that the tables hold
+abbrev pub programOf : Tables → Program
+programOf t = record {
+  rules = rulesOf (t .pool) (t .rules) (t .rulecount);
+  priorities = span (λ (i : ℕ). getD (t .levels) i (pos 0)) 0 (t .levelcount);
+  entries = entriesOf (t .priorities) (t .literals) (t .weights) (t .entrycount);
+  symbols = symbolsOf (t .text) (t .conditions) (t .symbols) (t .symbolcount);
+}

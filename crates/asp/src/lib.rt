@@ -1,0 +1,2 @@
+// Programs, their stable models and costs: what specs/ defines, computed over lent tables of numbers.
+pub mod literal;
