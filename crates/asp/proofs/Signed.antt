@@ -13,7 +13,7 @@ use mir.Facts.{toZ-ofZ, toZ-pos}
 use borrow.Author.Tests.{eq-eqb, eqb-true, eqb-false, ltb-true, le-ltb}
 use Rattle.asp.specs.Literal.{sameℤ, isNegative}
 
-clash : false ≡ true → ⊥
+pub clash : false ≡ true → ⊥
 clash q = let z : _≡_ {A = ℕ} 0 1 = cc in omega arith
 
 pub small-fits : (z : ℤ) → natAbs z ≤ 1024 → SFits w32 z

@@ -67,7 +67,11 @@ pub fn holds_in<'a>(m: &'a [u8], x: &'a [u8], l: i32) -> bool
     ensures { λ r. ⌜ r ≡ holdsIn (setOf (now (m .entry))) (setOf (now (x .entry))) l ⌝ }
 {
     let a = atom(l);
-    if is_negative(l) { !has(m, a) } else { has(x, a) }
+    if is_negative(l) {
+        !has(m, a)
+    } else {
+        has(x, a)
+    }
 }
 
 // Whether a literal holds in a set.
