@@ -6,6 +6,7 @@ use mathlib.Core.Logic.{_⊎_}
 use Prim.Native.Nat.{ℕ, _+_}
 use lib.Dec.{T}
 use lib.IntN.{ℤ}
+use lib.ListN.{length}
 use Rattle.asp.specs.Sets.{Set, pick}
 use Rattle.asp.specs.Literal.{sameℤ}
 use Rattle.asp.specs.Program.{Literal, Entry, Program}
@@ -60,4 +61,4 @@ abbrev pub NoDearer : {A : Type 0} → (A → A → Bool) → List A → List A 
 NoDearer lt [] [] = Unit {0}
 NoDearer lt [] (y ∷ ys) = ⊥
 NoDearer lt (x ∷ xs) [] = ⊥
-NoDearer lt (x ∷ xs) (y ∷ ys) = T (lt x y) ⊎ ((x ≡ y) × NoDearer lt xs ys)
+NoDearer lt (x ∷ xs) (y ∷ ys) = (T (lt x y) × (length xs ≡ length ys)) ⊎ ((x ≡ y) × NoDearer lt xs ys)

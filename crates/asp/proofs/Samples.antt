@@ -1,0 +1,111 @@
+-- The starred samples of document 01, "Sample programs", that speak of stable models and costs: one table, proved as a whole.
+-- Each program has exactly the stable models listed, among all sets of atoms, and each of them costs what is listed. Assumes nothing.
+use mathlib.Core.Path.{_≡_, refl, subst}
+use mathlib.Core.Bool.{Bool, true, false}
+use mathlib.Core.List.{List, [], _∷_, map}
+use Prim.Native.Nat.{ℕ, _≤_}
+use native.Mathlib.Omega.{arith}
+use lib.Dec.{T, ltb}
+use lib.IntN.{ℤ, pos, negsuc}
+use Rattle.asp.specs.Sets.{Set, In, same, iterate}
+use Rattle.asp.specs.Program.{Literal, Body, normal, Head, constraint, plain, choice, Rule, Entry, Program, All, RuleIn, atoms, highest}
+use Rattle.asp.specs.Stable.{Stable, listed, models, allHold, member, adds, anyViolated, subsets, keep}
+use Rattle.asp.specs.Cost.{level, total, costs, cheaper}
+use Rattle.asp.proofs.Models.{OneOf, models-all, models-only}
+
+-- ---- the table
+
+pub record Sample : Type 0 where
+  pub program : Program
+  -- its stable models, each as the list of its atoms, and the cost of each
+  pub models : List (List ℕ)
+  pub costs : List (List ℕ)
+
+abbrev rule : Head → List Literal → Rule
+rule h ls = record { head = h; body = normal ls }
+
+-- a literal and its weight, at one priority
+abbrev entry : ℤ → Literal → ℕ → Entry
+entry p l w = record { priority = p; literal = l; weight = w }
+
+-- rules alone
+abbrev program : List Rule → Program
+program rs = record { rules = rs; priorities = []; entries = []; symbols = [] }
+
+abbrev sample : List Rule → List (List ℕ) → Sample
+sample rs ms = record { program = program rs; models = ms; costs = map (λ (m : List ℕ). []) ms }
+
+abbrev plan : Program
+plan = record {
+  rules = rule (choice (1 ∷ 2 ∷ [])) [] ∷ rule (plain 3) (pos 1 ∷ pos 2 ∷ []) ∷ rule constraint (negsuc 0 ∷ negsuc 1 ∷ []) ∷ [];
+  priorities = pos 1 ∷ [];
+  entries = entry (pos 1) (pos 1) 2 ∷ entry (pos 1) (pos 2) 3 ∷ [];
+  symbols = record { name = 97 ∷ []; condition = pos 1 ∷ [] } ∷ record { name = 98 ∷ []; condition = pos 2 ∷ [] } ∷ [];
+}
+
+abbrev pub table : List Sample
+table =
+    -- no statement
+    sample [] ([] ∷ [])
+    -- 1 if 1
+    ∷ sample (rule (plain 1) (pos 1 ∷ []) ∷ []) ([] ∷ [])
+    -- 1 if not 1
+    ∷ sample (rule (plain 1) (negsuc 0 ∷ []) ∷ []) []
+    -- 1 if not 2, 2 if not 1
+    ∷ sample (rule (plain 1) (negsuc 1 ∷ []) ∷ rule (plain 2) (negsuc 0 ∷ []) ∷ []) ((1 ∷ []) ∷ (2 ∷ []) ∷ [])
+    -- choice {1}
+    ∷ sample (rule (choice (1 ∷ [])) [] ∷ []) ([] ∷ (1 ∷ []) ∷ [])
+    -- choice {1}, 1 if 2, 2 if 1
+    ∷ sample (rule (choice (1 ∷ [])) [] ∷ rule (plain 1) (pos 2 ∷ []) ∷ rule (plain 2) (pos 1 ∷ []) ∷ []) ([] ∷ (2 ∷ 1 ∷ []) ∷ [])
+    -- choice {1}, 2 if 1, never not 2
+    ∷ sample (rule (choice (1 ∷ [])) [] ∷ rule (plain 2) (pos 1 ∷ []) ∷ rule constraint (negsuc 1 ∷ []) ∷ []) ((2 ∷ 1 ∷ []) ∷ [])
+    -- choice {1} and atom 1 twice at priority 0, weights 2 and 3
+    ∷ record {
+      program = record {
+        rules = rule (choice (1 ∷ [])) [] ∷ [];
+        priorities = pos 0 ∷ [];
+        entries = entry (pos 0) (pos 1) 2 ∷ entry (pos 0) (pos 1) 3 ∷ [];
+        symbols = [];
+      };
+      models = [] ∷ (1 ∷ []) ∷ [];
+      costs = (0 ∷ []) ∷ (5 ∷ []) ∷ [];
+    }
+    -- the file plan.aspif
+    ∷ record { program = plan; models = (1 ∷ []) ∷ (2 ∷ []) ∷ (3 ∷ 2 ∷ 1 ∷ []) ∷ []; costs = (2 ∷ []) ∷ (3 ∷ []) ∷ (5 ∷ []) ∷ [] }
+    ∷ []
+
+-- ---- what the table says
+
+pub record Right (s : Sample) : Type 0 where
+  pub each : (M : Set) → Stable (s .program .rules) M → OneOf M (s .models)
+  pub only : (M : Set) → OneOf M (s .models) → Stable (s .program .rules) M
+  pub priced : map (λ (m : List ℕ). costs (s .program) (listed m)) (s .models) ≡ s .costs
+
+-- what is left to compute
+pub record Computed (s : Sample) : Type 0 where
+  pub heads : All (RuleIn (atoms (s .program))) (s .program .rules)
+  pub found : models (atoms (s .program)) (s .program .rules) ≡ s .models
+  pub priced : map (λ (m : List ℕ). costs (s .program) (listed m)) (s .models) ≡ s .costs
+
+right : (s : Sample) → Computed s → Right s
+right s c = record {
+  each = λ M t. subst (OneOf M) (c .found) (models-all (atoms (s .program)) (s .program .rules) (c .heads) M t);
+  only = λ M o. models-only (atoms (s .program)) (s .program .rules) (c .heads) M (rw (c .found) o);
+  priced = c .priced;
+}
+
+all-right : (ss : List Sample) → All Computed ss → All Right ss
+all-right [] c = tt
+all-right (s ∷ ss) c = (right s (c .0), all-right ss (c .1))
+
+computed : All Computed table
+unfolding highest same iterate allHold member adds anyViolated subsets keep level total
+computed = (record { heads = tt; found = refl; priced = refl }, (record { heads = omega arith; found = refl; priced = refl }, (record { heads = omega arith; found = refl; priced = refl }, (record { heads = omega arith; found = refl; priced = refl }, (record { heads = omega arith; found = refl; priced = refl }, (record { heads = omega arith; found = refl; priced = refl }, (record { heads = omega arith; found = refl; priced = refl }, (record { heads = omega arith; found = refl; priced = refl }, (record { heads = omega arith; found = refl; priced = refl }, tt)))))))))
+
+pub table-right : All Right table
+table-right = all-right table computed
+
+-- (0, 900) is cheaper than (1, 0)
+pub level-by-level : cheaper ltb (0 ∷ 900 ∷ []) (1 ∷ 0 ∷ []) ≡ true
+unfolding cheaper
+level-by-level = refl
