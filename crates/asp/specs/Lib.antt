@@ -4,3 +4,4 @@ pub mod Program
 pub mod Stable
 pub mod Cost
 pub mod Tables
+pub mod Growth

@@ -1,0 +1,1 @@
+// What a set costs, and the comparison of costs.
