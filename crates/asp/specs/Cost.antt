@@ -44,8 +44,11 @@ abbrev pub cost : Set → List Entry → ℕ
 cost M es = total (map (entryCost M) es)
 
 -- "A set's cost lists the sum on each level."
+abbrev pub costsAt : Set → List ℤ → List Entry → List ℕ
+costsAt M qs es = map (λ q. cost M (level q es)) qs
+
 abbrev pub costs : Program → Set → List ℕ
-costs p M = map (cost M) (levels p)
+costs p M = costsAt M (p .priorities) (p .entries)
 
 -- ---- "Costs compare level by level, highest priority first." Over any `lt`, which tells whether one figure is less.
 

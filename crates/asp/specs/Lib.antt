@@ -5,3 +5,4 @@ pub mod Stable
 pub mod Cost
 pub mod Tables
 pub mod Growth
+pub mod Paying

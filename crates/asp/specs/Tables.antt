@@ -79,8 +79,11 @@ entriesOf priorities literals weights count = span (entryAt priorities literals 
 -- ---- symbols: the text, a pool of condition literals, and a row for each symbol:
 -- a: the first byte of its name in the text; b: how many bytes; c: its first place in the pool; d: how many literals
 
+abbrev pub conditionAt : List ℤ → Row → List Literal
+conditionAt pool r = literalsAt pool (r .c) (r .d)
+
 abbrev pub symbolAt : List ℕ → List ℤ → Row → Symbol
-symbolAt text pool r = record { name = span (λ (j : ℕ). getD text j 0) (r .a) (r .b); condition = literalsAt pool (r .c) (r .d) }
+symbolAt text pool r = record { name = span (λ (j : ℕ). getD text j 0) (r .a) (r .b); condition = conditionAt pool r }
 
 abbrev pub symbolsOf : List ℕ → List ℤ → List ℕ → ℕ → List Symbol
 symbolsOf text pool rows count = span (λ (i : ℕ). symbolAt text pool (rowAt rows i)) 0 count
