@@ -67,10 +67,10 @@ pub fn level_cost<'a>(
     ensures { λ r. ⌜ r ≡ cost (setOf (now (m .entry))) (level (getD (now (levels .entry)) l (pos 0)) (entriesOf (now (priorities .entry)) (now (literals .entry)) (now (weights .entry)) count)) ⌝ }
 {
     let mut sum: u64 = 0;
-    let mut i: usize = 0;
-    while i < count {
-        sum += paid_at(levels, l, priorities, literals, weights, i, m);
-        i += 1;
+    let mut e: usize = 0;
+    while e < count {
+        sum += paid_at(levels, l, priorities, literals, weights, e, m);
+        e += 1;
     }
     sum
 }

@@ -44,7 +44,8 @@ fn add_chosen<'a>(pool: &'a [i32], i: usize, m: &'a [u8], x: &mut [u8; 1025]) ->
     ensures { λ r. ⌜ Grown (ChosenAtom (setOf (now (m .entry))) (named (getD (now (pool .entry)) i (pos 0)))) (now (x .entry)) (now (x .exit)) r ⌝ }
 {
     let a = table::atom_at(pool, i);
-    if literal::has(m, a) {
+    let chosen = literal::has(m, a);
+    if chosen {
         return add(x, a);
     }
     false
@@ -134,11 +135,11 @@ fn is_violated<'a>(pool: &'a [i32], rows: &'a [u16], r: usize, m: &'a [u8]) -> b
     ensures { λ b. ⌜ b ≡ violated (setOf (now (m .entry))) (ruleAt (now (pool .entry)) (rowAt (now (rows .entry)) r)) ⌝ }
 {
     let at = r * 4;
-    let kind = table::number_at(rows, at);
+    let choice = table::number_at(rows, at);
     let first = table::number_at(rows, at + 1);
     let heads = table::number_at(rows, at + 2);
     let body = table::number_at(rows, at + 3);
-    if kind == 1 {
+    if choice == 1 {
         return false;
     }
     if heads == 0 {
@@ -151,12 +152,12 @@ fn any_violated<'a>(pool: &'a [i32], rows: &'a [u16], count: usize, m: &'a [u8])
     requires { ⌜ RulesFormed (now pool) (now rows) count × (1024 < length (now m)) ⌝ }
     ensures { λ b. ⌜ b ≡ anyViolated (setOf (now (m .entry))) (rulesOf (now (pool .entry)) (now (rows .entry)) count) ⌝ }
 {
-    let mut r: usize = 0;
-    while r < count {
-        if is_violated(pool, rows, r, m) {
+    let mut c: usize = 0;
+    while c < count {
+        if is_violated(pool, rows, c, m) {
             return true;
         }
-        r += 1;
+        c += 1;
     }
     false
 }

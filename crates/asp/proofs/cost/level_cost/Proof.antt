@@ -11,10 +11,10 @@ use Rattle.asp.proofs.cost.level_cost.Statement.{statement}
 use Rattle.asp.proofs.cost.level_cost.Tie as tie
 
 abbrev Inv-loop : tie.InvT-loop
-Inv-loop levels l priorities literals weights count m sum₀ i₀ sum i = Summing (setOf m) (getD levels l (pos 0)) priorities literals weights count sum i
+Inv-loop levels l priorities literals weights count m sum₀ e₀ sum e = Summing (setOf m) (getD levels l (pos 0)) priorities literals weights count sum e
 
 abbrev μ-loop : tie.MeasureT-loop
-μ-loop levels l priorities literals weights count m sum₀ i₀ sum i = count - i
+μ-loop levels l priorities literals weights count m sum₀ e₀ sum e = count - e
 
 loop-holds : tie.Need-loop-holds Inv-loop μ-loop
 loop-holds c = search (summing-start, needs)
@@ -25,8 +25,8 @@ paid-at-requires c κs = (search needs, omega arith, omega arith, omega arith, s
 add-sum : tie.Need-add-sum Inv-loop μ-loop
 add-sum c = omega arith
 
-add-i : tie.Need-add-i Inv-loop μ-loop
-add-i c = omega arith
+add-e : tie.Need-add-e Inv-loop μ-loop
+add-e c = omega arith
 
 loop-less : tie.Need-loop-less Inv-loop μ-loop
 loop-less c = omega arith
@@ -46,7 +46,7 @@ level-cost-spec =
     loop-holds
     paid-at-requires
     add-sum
-    add-i
+    add-e
     loop-less
     loop-again
     returns)

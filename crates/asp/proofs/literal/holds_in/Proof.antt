@@ -27,10 +27,10 @@ is-negative-requires : tie.Need-is-negative-requires
 is-negative-requires c κs = search needs
 
 has-requires : tie.Need-has-requires
-has-requires c κs = rw (atom (c .before .before)) (c .before .before .before .before .before .pre .1 .0)
+has-requires c κs = rw (atom (c .before .before)) (omega (arith, c .before .before .before .before .before .pre))
 
 has-requires-2 : tie.Need-has-requires-2
-has-requires-2 c κs = rw (atom (c .before .before)) (c .before .before .before .before .before .pre .1 .1)
+has-requires-2 c κs = rw (atom (c .before .before)) (omega (arith, c .before .before .before .before .before .pre))
 
 returns : tie.Need-returns
 returns c =

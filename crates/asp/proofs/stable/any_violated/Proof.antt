@@ -9,10 +9,10 @@ use Rattle.asp.proofs.stable.any_violated.Statement.{statement}
 use Rattle.asp.proofs.stable.any_violated.Tie as tie
 
 abbrev Inv-loop : tie.InvT-loop
-Inv-loop pool rows count m r₀ r = Unviolated (setOf m) pool rows count r
+Inv-loop pool rows count m c₀ c = Unviolated (setOf m) pool rows count c
 
 abbrev μ-loop : tie.MeasureT-loop
-μ-loop pool rows count m r₀ r = count - r
+μ-loop pool rows count m c₀ c = count - c
 
 loop-holds : tie.Need-loop-holds Inv-loop μ-loop
 loop-holds c = search (unviolated-start, needs)
@@ -23,8 +23,8 @@ is-violated-requires c κs = (search (rule-formed, needs), search needs)
 returns : tie.Need-returns Inv-loop μ-loop
 returns c = search (violated-here, needs)
 
-add-r : tie.Need-add-r Inv-loop μ-loop
-add-r c = omega arith
+add-c : tie.Need-add-c Inv-loop μ-loop
+add-c c = omega arith
 
 loop-less : tie.Need-loop-less Inv-loop μ-loop
 loop-less c = omega arith
@@ -44,7 +44,7 @@ any-violated-spec =
     loop-holds
     is-violated-requires
     returns
-    add-r
+    add-c
     loop-less
     loop-again
     returns-2)
