@@ -1,0 +1,134 @@
+#!/usr/bin/env python3
+"""Writes the data of the test program crates/models: small programs in aspif, and for each its stable models with
+their costs. The models are clasp's (Debian's package clasp), the costs are summed here from the minimise lines.
+
+    apt-get install clasp && tests/models/make.py
+
+Every program has at most 12 atoms, since the test program tries every set of atoms.
+"""
+import os
+import random
+import re
+import subprocess
+
+HERE = os.path.dirname(os.path.abspath(__file__))
+OUT = os.path.join(HERE, '..', '..', 'crates', 'models')
+HEADER = 'asp 1 0 0\n'
+
+# the samples of document 01, in its order
+SAMPLES = {
+    'none': '',
+    'self': '1 0 1 1 0 1 1\n',
+    'odd': '1 0 1 1 0 1 -1\n',
+    'even': '1 0 1 1 0 1 -2\n1 0 1 2 0 1 -1\n',
+    'choice': '1 1 1 1 0 0\n',
+    'loop': '1 1 1 1 0 0\n1 0 1 1 0 1 2\n1 0 1 2 0 1 1\n',
+    'needed': '1 1 1 1 0 0\n1 0 1 2 0 1 1\n1 0 0 0 1 -2\n',
+    'twice': '1 1 1 1 0 0\n2 0 2 1 2 1 3\n',
+    'plan': '1 1 2 1 2 0 0\n1 0 1 3 0 2 1 2\n1 0 0 0 2 -1 -2\n2 1 2 1 2 2 3\n4 1 a 1 1\n4 1 b 1 2\n',
+}
+
+# written by hand: unfounded loops, chains, a pigeonhole, levels with signs, duplicate literals, atoms named nowhere else
+BY_HAND = {
+    'chain': '1 1 1 1 0 0\n' + ''.join(f'1 0 1 {a + 1} 0 1 {a}\n' for a in range(1, 12)),
+    'cycle': ''.join(f'1 0 1 {a % 12 + 1} 0 1 {a}\n' for a in range(1, 13)) + '1 1 1 7 0 0\n',
+    'loops': '1 1 3 1 2 3 0 0\n1 0 1 4 0 1 5\n1 0 1 5 0 1 4\n1 0 1 4 0 1 1\n1 0 1 6 0 1 7\n1 0 1 7 0 1 6\n1 0 0 0 2 -6 2\n',
+    'evens': ''.join(f'1 0 1 {a} 0 1 -{a + 1}\n1 0 1 {a + 1} 0 1 -{a}\n' for a in range(1, 12, 2)),
+    'oddcycle': '1 0 1 1 0 1 -2\n1 0 1 2 0 1 -3\n1 0 1 3 0 1 -1\n1 1 1 4 0 0\n1 0 1 1 0 1 4\n',
+    'pigeons': ''.join(f'1 1 2 {2 * p + 1} {2 * p + 2} 0 0\n1 0 0 0 2 -{2 * p + 1} -{2 * p + 2}\n' for p in range(3))
+               + ''.join(f'1 0 0 0 2 {2 * p + h} {2 * q + h}\n' for h in (1, 2) for p in range(3) for q in range(p)),
+    'negative': '1 1 3 1 2 3 0 0\n2 -5 2 -1 7 2 1\n2 3 3 1 1 -2 4 3 0\n2 0 0\n2 -5 1 3 2\n',
+    'doubled': '1 1 3 1 1 2 0 3 3 3 -4\n1 0 1 3 0 2 -5 -5\n1 0 1 4 0 2 1 -1\n2 2 3 1 5 1 5 -1 5\n',
+    'named': '1 1 1 1 0 0\n2 1 2 -9 4 9 4\n4 2 no 1 -9\n4 1 b 2 1 -12\n',
+    'facts': ''.join(f'1 0 1 {a} 0 0\n' for a in range(1, 7)) + '1 0 1 7 0 6 1 2 3 4 5 6\n1 0 0 0 2 7 8\n1 1 2 8 9 0 1 7\n',
+    'contradiction': '1 0 1 1 0 0\n1 0 0 0 1 1\n',
+    'bare': '1 0 0 0 0\n',
+    'emptychoice': '1 1 0 0 0\n1 1 2 3 4 0 1 -5\n',
+}
+
+
+def random_program(seed):
+    """All shapes: facts, plain rules, choices, constraints, levels, duplicate literals, loops."""
+    r = random.Random(seed)
+    n = r.randint(5, 10)
+
+    def literals(k, both=True):
+        return [r.choice((1, -1) if both else (1,)) * r.randint(1, n) for _ in range(k)]
+
+    lines = []
+    for _ in range(r.randint(n, 2 * n)):
+        body = literals(r.choice((0, 1, 1, 2, 2, 3)))
+        shape = r.random()
+        if shape < 0.35:
+            heads = [r.randint(1, n) for _ in range(r.randint(1, 3))]
+            lines.append(f'1 1 {len(heads)} ' + ' '.join(map(str, heads + [0, len(body)] + body)))
+        elif shape < 0.9:
+            lines.append(' '.join(map(str, [1, 0, 1, r.randint(1, n), 0, len(body)] + body)))
+        else:
+            body = body or literals(2)
+            lines.append(' '.join(map(str, [1, 0, 0, 0, len(body)] + body)))
+    for _ in range(r.randint(0, 3)):
+        pairs = [(l, r.choice((0, 1, 2, 5, 1000000))) for l in literals(r.randint(0, 4))]
+        lines.append(' '.join(map(str, [2, r.randint(-3, 3), len(pairs)] + [x for p in pairs for x in p])))
+    return ''.join(l + '\n' for l in lines)
+
+
+def statements(text):
+    """The rules' and entries' numbers of a text, read line by line; symbols are written by hand above and have no spaces."""
+    rules, entries, priorities, named = [], [], set(), 0
+    for line in text.splitlines()[1:-1]:
+        f = line.split(' ')
+        if f[0] == '1':
+            v = list(map(int, f[1:]))
+            m = v[1]
+            named = max([named] + v[2:2 + m] + [abs(l) for l in v[4 + m:]])
+        elif f[0] == '2':
+            v = list(map(int, f[1:]))
+            priorities.add(v[0])
+            for i in range(v[1]):
+                entries.append((v[0], v[2 + 2 * i], v[3 + 2 * i]))
+                named = max(named, abs(v[2 + 2 * i]))
+        elif f[0] == '4':
+            named = max([named] + [abs(int(l)) for l in f[4:]])
+    return entries, sorted(priorities, reverse=True), named
+
+
+def clasp_models(text):
+    """All stable models by clasp, as sets of atoms: each atom is given a name of its own."""
+    _, _, n = statements(text)
+    body = [l for l in text.splitlines()[1:-1] if not l.startswith('4 ')]
+    shows = [f'4 {len(str(a)) + 1} x{a} 1 {a}' for a in range(1, n + 1)]
+    given = '\n'.join(['asp 1 0 0'] + body + shows + ['0']) + '\n'
+    out = subprocess.run(['clasp', '-n', '0', '--opt-mode=ignore', '-'], input=given, capture_output=True, text=True).stdout
+    assert 'SATISFIABLE' in out, out
+    return [frozenset(int(w[1:]) for w in line.split()) for line in re.findall(r'^Answer: \d+\n(.*)$', out, re.M)]
+
+
+def cost(model, entries, priorities):
+    holds = lambda l: (l in model) if l > 0 else (-l not in model)
+    return [sum(w for (q, l, w) in entries if q == p and holds(l)) for p in priorities]
+
+
+def main():
+    programs = {**SAMPLES, **BY_HAND, **{f'random{s:02}': random_program(s) for s in range(24)}}
+    os.makedirs(os.path.join(OUT, 'data'), exist_ok=True)
+    expected = []
+    for name, text in programs.items():
+        text = HEADER + text + '0\n'
+        with open(os.path.join(OUT, 'data', name), 'w') as f:
+            f.write(text)
+        entries, priorities, n = statements(text)
+        assert n <= 12, (name, n)
+        models = sorted(clasp_models(text), key=lambda m: sum(1 << a for a in m))
+        expected.append(f'{name}: {len(models)} of {2 ** n}\n')
+        for m in models:
+            figures = ''.join(f' {c}' for c in cost(m, entries, priorities))
+            expected.append('{' + ','.join(map(str, sorted(m))) + '}' + figures + '\n')
+    with open(os.path.join(OUT, 'args'), 'w') as f:
+        f.write(''.join(name + '\n' for name in programs))
+    with open(os.path.join(OUT, 'stdout'), 'w') as f:
+        f.write(''.join(expected))
+    print(f'{len(programs)} programs, {len(expected) - len(programs)} models')
+
+
+main()
