@@ -1,0 +1,256 @@
+-- Every program that a text is accepted with has atoms from 1 to 1,024, weights to 1,000,000 and its priorities in order, and fits its tables. Assumes nothing.
+use mathlib.Core.Path.{_≡_, refl, sym, ap, _∙_}
+use mathlib.Core.Bool.{Bool, true, false, not}
+use mathlib.Core.List.{List, [], _∷_, _++_, map}
+use Prim.Native.Nat.{ℕ, zero, suc, _+_, _≤_, _<_, max}
+use native.Mathlib.Omega.{arith}
+use lib.Dec.{leb, ltb, eqb}
+use lib.IntN.{ℤ, pos, negsuc, negℤ, natAbs}
+use lib.ListN.{length, drop}
+use borrow.Author.Tests.{leb-true, eqb-false}
+use Rattle.asp.specs.Sets.{pick, In}
+use Rattle.asp.specs.Program.{Literal, normal, Head, constraint, plain, choice, Rule, Entry, Symbol, Program, All, LiteralIn, HeadIn, RuleIn, ProgramIn}
+use Rattle.asp.specs.Tables.{named, plainHead}
+use Rattle.aspif.specs.Text.{both, within, Read, got, bad, bind, next, token, number, signed, field, natural, atom, literal, member, more, nil, ended, Opening, opening, bodyCount, headOf, ruleOf, ruleLine, pair, Minimise, minimiseLine, nameByte, symbolLine, Statement, rule, minimise, symbol, comment, final, ofKind, statement, Reading, add, addRule, addMinimise, addSymbol, insert, fits, nothing, isFinal, Step, stop, last, goes, led, stepped, judged, lines, same, header, none, opened, headed, pieces, sum, textOf, Answer, accepted, refused}
+use Rattle.aspif.specs.Store.{Descending}
+use Rattle.aspif.proofs.Levels.{descending-insert}
+use Rattle.aspif.proofs.Signs.{abs-neg}
+
+-- ---- what is read, if something is
+
+abbrev Reads : {A : Type 0} → (A → Type 0) → Read A → Type 0
+Reads P (got a l) = P a
+Reads P (bad c) = Unit {0}
+
+abbrev Any : {A : Type 0} → A → Type 0
+Any a = Unit {0}
+
+any : {A : Type 0} (x : Read A) → Reads Any x
+any (got a l) = tt
+any (bad c) = tt
+
+reads-bind : {A B : Type 0} (P : A → Type 0) (Q : B → Type 0) (x : Read A) (k : A → List ℕ → Read B) → Reads P x → ((a : A) (l : List ℕ) → P a → Reads Q (k a l)) → Reads Q (bind x k)
+reads-bind P Q (got a l) k p f = f a l p
+reads-bind P Q (bad c) k p f = tt
+
+reads-pick : {A : Type 0} (P : A → Type 0) (b : Bool) (x y : Read A) → (b ≡ true → Reads P x) → (b ≡ false → Reads P y) → Reads P (pick b x y)
+reads-pick P true x y f g = f refl
+reads-pick P false x y f g = g refl
+
+both-true : (a b : Bool) → both a b ≡ true → (a ≡ true) × (b ≡ true)
+both-true true b e = (refl, e)
+both-true false b e = let z : _≡_ {A = ℕ} 0 1 = cc in absurd (omega arith)
+
+abbrev Range : ℕ → ℕ → ℕ → Type 0
+Range lo hi v = (lo ≤ v) × (v ≤ hi)
+
+number-reads : (lo hi : ℕ) (l : List ℕ) → Reads (Range lo hi) (number lo hi l)
+unfolding number
+number-reads lo hi l =
+    reads-bind Any (Range lo hi) (token l) (λ v r. pick (within lo hi v) (got v r) (bad 4)) (any (token l))
+    (λ v r u. reads-pick (Range lo hi) (within lo hi v) (got v r) (bad 4) (λ e. let b = both-true (leb lo v) (leb v hi) e in (leb-true lo v (b .0), leb-true v hi (b .1))) (λ e. tt))
+
+field-reads : {A : Type 0} (P : A → Type 0) (f : List ℕ → Read A) (l : List ℕ) → ((r : List ℕ) → Reads P (f r)) → Reads P (field f l)
+field-reads P f l h = reads-pick P (eqb (next l) 32) (f (drop 1 l)) (bad 2) (λ e. h (drop 1 l)) (λ e. tt)
+
+natural-reads : (lo hi : ℕ) (l : List ℕ) → Reads (Range lo hi) (natural lo hi l)
+unfolding natural
+natural-reads lo hi l = field-reads (Range lo hi) (number lo hi) l (number-reads lo hi)
+
+abbrev Small : ℕ → ℤ → Type 0
+Small hi z = natAbs z ≤ hi
+
+signed-reads : (hi : ℕ) (l : List ℕ) → Reads (Small hi) (signed hi l)
+unfolding signed
+signed-reads hi l =
+    reads-pick (Small hi) (eqb (next l) 45)
+    (bind (number 0 hi (drop 1 l)) (λ v r. pick (eqb v 0) (bad 2) (got (negℤ (pos v)) r)))
+    (bind (number 0 hi l) (λ v r. got (pos v) r))
+    (λ e. reads-bind (Range 0 hi) (Small hi) (number 0 hi (drop 1 l)) (λ v r. pick (eqb v 0) (bad 2) (got (negℤ (pos v)) r)) (number-reads 0 hi (drop 1 l))
+    (λ v r h. reads-pick (Small hi) (eqb v 0) (bad 2) (got (negℤ (pos v)) r) (λ e. tt) (λ e. omega (arith, abs-neg (pos v), h .1))))
+    (λ e. reads-bind (Range 0 hi) (Small hi) (number 0 hi l) (λ v r. got (pos v) r) (number-reads 0 hi l) (λ v r h. h .1))
+
+-- a head's atom is one, and a body's literal has one
+abbrev Member : Bool → ℤ → Type 0
+Member true z = In 1024 (named z)
+Member false z = LiteralIn 1024 z
+
+positive-abs : (n : ℕ) → eqb n 0 ≡ false → 1 ≤ n
+positive-abs zero e = absurd (eqb-false 0 0 e refl)
+positive-abs (suc n) e = omega arith
+
+literal-reads : (l : List ℕ) → Reads (LiteralIn 1024) (literal l)
+unfolding literal
+literal-reads l =
+    reads-bind (Small 1024) (LiteralIn 1024) (field (signed 1024) l) (λ z r. pick (eqb (natAbs z) 0) (bad 4) (got z r)) (field-reads (Small 1024) (signed 1024) l (signed-reads 1024))
+    (λ z r h. reads-pick (LiteralIn 1024) (eqb (natAbs z) 0) (bad 4) (got z r) (λ e. tt) (λ e. (positive-abs (natAbs z) e, h)))
+
+member-reads : (b : Bool) (l : List ℕ) → Reads (Member b) (member b l)
+unfolding atom
+member-reads true l = reads-bind (Range 1 1024) (Member true) (natural 1 1024 l) (λ a r. got (pos a) r) (natural-reads 1 1024 l) (λ a r h. h)
+member-reads false l = literal-reads l
+
+pub all-append : {A : Type 0} (P : A → Type 0) (xs ys : List A) → All P xs → All P ys → All P (xs ++ ys)
+all-append P [] ys f g = g
+all-append P (x ∷ xs) ys f g = (f .0, all-append P xs ys (f .1) g)
+
+more-reads : {A : Type 0} (P : A → Type 0) (f : List ℕ → Read A) (k : ℕ) (xs : List A) (l : List ℕ) → ((r : List ℕ) → Reads P (f r)) → All P xs → Reads (All P) (more f k xs l)
+unfolding more
+more-reads P f zero xs l h a = a
+more-reads P f (suc k) xs l h a =
+    reads-bind P (All P) (f l) (λ a r. more f k (xs ++ (a ∷ [])) r) (h l) (λ x r p. more-reads P f k (xs ++ (x ∷ [])) r h (all-append P xs (x ∷ []) a (p, tt)))
+
+ended-reads : {A : Type 0} (P : A → Type 0) (a : A) (l : List ℕ) → P a → Reads P (ended a l)
+ended-reads P a l p = reads-pick P (nil l) (got a []) (bad 2) (λ e. p) (λ e. tt)
+
+-- ---- statements
+
+all-named : (zs : List ℤ) → All (Member true) zs → All (In 1024) (map named zs)
+all-named [] a = tt
+all-named (z ∷ zs) a = (a .0, all-named zs (a .1))
+
+head-in : (c : Bool) (xs : List ℕ) → All (In 1024) xs → HeadIn 1024 (headOf c xs)
+head-in true xs a = a
+head-in false [] a = tt
+head-in false (x ∷ xs) a = a .0
+
+rule-reads : (l : List ℕ) → Reads (RuleIn 1024) (ruleLine l)
+unfolding ruleLine
+rule-reads l =
+    reads-bind Any (RuleIn 1024) (opening l) _ (any (opening l)) (λ o l u.
+    reads-bind (All (Member true)) (RuleIn 1024) (more (member true) (o .count) [] l) _ (more-reads (Member true) (member true) (o .count) [] l (member-reads true) tt) (λ heads l h.
+    reads-bind Any (RuleIn 1024) (bodyCount l) _ (any (bodyCount l)) (λ k l u.
+    reads-bind (All (Member false)) (RuleIn 1024) (more (member false) k [] l) _ (more-reads (Member false) (member false) k [] l (member-reads false) tt) (λ body l b.
+    ended-reads (RuleIn 1024) (ruleOf (o .choice) heads body) l (head-in (o .choice) (map named heads) (all-named heads h), b)))))
+
+-- an entry of a literal and a weight in their ranges
+abbrev EntryIn : Entry → Type 0
+EntryIn e = LiteralIn 1024 (e .literal) × (e .weight ≤ 1000000)
+
+pair-reads : (p : ℤ) (l : List ℕ) → Reads EntryIn (pair p l)
+unfolding pair
+pair-reads p l =
+    reads-bind (LiteralIn 1024) EntryIn (literal l) _ (literal-reads l) (λ z l h.
+    reads-bind (Range 0 1000000) EntryIn (natural 0 1000000 l) _ (natural-reads 0 1000000 l) (λ w l r. (h, r .1)))
+
+abbrev MinimiseIn : Minimise → Type 0
+MinimiseIn m = All EntryIn (m .entries)
+
+minimise-reads : (l : List ℕ) → Reads MinimiseIn (minimiseLine l)
+unfolding minimiseLine
+minimise-reads l =
+    reads-bind Any MinimiseIn (field (signed 1000) l) _ (any (field (signed 1000) l)) (λ p l u.
+    reads-bind Any MinimiseIn (natural 0 1024 l) _ (any (natural 0 1024 l)) (λ k l u.
+    reads-bind (All EntryIn) MinimiseIn (more (pair p) k [] l) _ (more-reads EntryIn (pair p) k [] l (pair-reads p) tt) (λ es l h.
+    ended-reads MinimiseIn (record { priority = p; entries = es }) l h)))
+
+abbrev SymbolIn : Symbol → Type 0
+SymbolIn s = All (LiteralIn 1024) (s .condition)
+
+symbol-reads : (l : List ℕ) → Reads SymbolIn (symbolLine l)
+unfolding symbolLine
+symbol-reads l =
+    reads-bind Any SymbolIn (natural 1 64 l) _ (any (natural 1 64 l)) (λ m l u.
+    reads-bind Any SymbolIn (field (more nameByte m []) l) _ (any (field (more nameByte m []) l)) (λ name l u.
+    reads-bind Any SymbolIn (natural 0 1024 l) _ (any (natural 0 1024 l)) (λ k l u.
+    reads-bind (All (Member false)) SymbolIn (more (member false) k [] l) _ (more-reads (Member false) (member false) k [] l (member-reads false) tt) (λ c l h.
+    ended-reads SymbolIn (record { name = name; condition = c }) l h))))
+
+abbrev StatementIn : Statement → Type 0
+StatementIn (rule r) = RuleIn 1024 r
+StatementIn (minimise q es) = All EntryIn es
+StatementIn (symbol s) = SymbolIn s
+StatementIn comment = Unit {0}
+StatementIn final = Unit {0}
+
+kind-reads : (k : ℕ) (l : List ℕ) → Reads StatementIn (ofKind k l)
+unfolding ofKind
+kind-reads k l =
+    reads-pick StatementIn (eqb k 0) (ended final l) _ (λ e. ended-reads StatementIn final l tt) (λ e.
+    reads-pick StatementIn (eqb k 1) (bind (ruleLine l) (λ r l. got (rule r) l)) _ (λ e. reads-bind (RuleIn 1024) StatementIn (ruleLine l) _ (rule-reads l) (λ r l h. h)) (λ e.
+    reads-pick StatementIn (eqb k 2) (bind (minimiseLine l) (λ m l. got (minimise (m .priority) (m .entries)) l)) _ (λ e. reads-bind MinimiseIn StatementIn (minimiseLine l) _ (minimise-reads l) (λ m l h. h)) (λ e.
+    reads-pick StatementIn (eqb k 4) (bind (symbolLine l) (λ s l. got (symbol s) l)) _ (λ e. reads-bind SymbolIn StatementIn (symbolLine l) _ (symbol-reads l) (λ s l h. h)) (λ e.
+    reads-pick StatementIn (eqb k 10) (got comment []) (bad 3) (λ e. tt) (λ e. tt)))))
+
+statement-reads : (l : List ℕ) → Reads StatementIn (statement l)
+unfolding statement
+statement-reads l = reads-bind Any StatementIn (number 0 10 l) ofKind (any (number 0 10 l)) (λ k r u. kind-reads k r)
+
+-- ---- programs
+
+pub record Fine (p : Program) : Type 0 where
+  pub atoms : ProgramIn 1024 p
+  pub weights : All (λ (e : Entry). e .weight ≤ 1000000) (p .entries)
+  pub down : Descending (p .priorities)
+
+all-literals : (es : List Entry) → All EntryIn es → All (λ (e : Entry). LiteralIn 1024 (e .literal)) es
+all-literals [] a = tt
+all-literals (e ∷ es) a = (a .0 .0, all-literals es (a .1))
+
+all-weights : (es : List Entry) → All EntryIn es → All (λ (e : Entry). e .weight ≤ 1000000) es
+all-weights [] a = tt
+all-weights (e ∷ es) a = (a .0 .1, all-weights es (a .1))
+
+fine-add : (l : List ℕ) (st : Statement) (p : Reading) → StatementIn st → Fine (p .program) → Fine (add l st p .program)
+fine-add l (rule r) p s f =
+    record { atoms = record { rules = all-append (RuleIn 1024) (p .program .rules) (r ∷ []) (f .atoms .rules) (s, tt); entries = f .atoms .entries; symbols = f .atoms .symbols }; weights = f .weights; down = f .down }
+fine-add l (minimise q es) p s f =
+    record {
+      atoms = record { rules = f .atoms .rules; entries = all-append (λ (e : Entry). LiteralIn 1024 (e .literal)) (p .program .entries) es (f .atoms .entries) (all-literals es s); symbols = f .atoms .symbols };
+      weights = all-append (λ (e : Entry). e .weight ≤ 1000000) (p .program .entries) es (f .weights) (all-weights es s);
+      down = descending-insert q (p .program .priorities) (f .down);
+    }
+fine-add l (symbol s) p h f =
+    record { atoms = record { rules = f .atoms .rules; entries = f .atoms .entries; symbols = all-append SymbolIn (p .program .symbols) (s ∷ []) (f .atoms .symbols) (h, tt) }; weights = f .weights; down = f .down }
+fine-add l comment p s f = f
+fine-add l final p s f = f
+
+-- ---- texts
+
+pub record Good (p : Program) : Type 0 where
+  pub fine : Fine p
+  pub fit : fits p ≡ true
+
+abbrev Answers : Answer → Type 0
+Answers (accepted p t) = Good p
+Answers (refused c m) = Unit {0}
+
+answers-pick : (b : Bool) (x y : Answer) → (b ≡ true → Answers x) → Answers y → Answers (pick b x y)
+answers-pick true x y f g = f refl
+answers-pick false x y f g = g
+
+judged-good : (n : ℕ) (l : List ℕ) (p : Reading) (ls : List (List ℕ)) (x : Read Statement) (go : Reading → Answer) → Reads StatementIn x → Good (p .program) → ((q : Reading) → Good (q .program) → Answers (go q))
+    → Answers (judged n ls (led l p x) go)
+judged-good n l p ls (bad c) go s g f = tt
+judged-good n l p [] (got (rule r) u) go s g f = tt
+judged-good n l p [] (got (minimise q es) u) go s g f = tt
+judged-good n l p [] (got (symbol y) u) go s g f = tt
+judged-good n l p [] (got comment u) go s g f = tt
+judged-good n l p [] (got final u) go s g f = tt
+judged-good n l p (m ∷ ms) (got (rule r) u) go s g f = let q = add l (rule r) p in answers-pick (fits (q .program)) (go q) (refused 5 n) (λ e. f q (record { fine = fine-add l (rule r) p s (g .fine); fit = e })) tt
+judged-good n l p (m ∷ ms) (got (minimise k es) u) go s g f = let q = add l (minimise k es) p in answers-pick (fits (q .program)) (go q) (refused 5 n) (λ e. f q (record { fine = fine-add l (minimise k es) p s (g .fine); fit = e })) tt
+judged-good n l p (m ∷ ms) (got (symbol y) u) go s g f = let q = add l (symbol y) p in answers-pick (fits (q .program)) (go q) (refused 5 n) (λ e. f q (record { fine = fine-add l (symbol y) p s (g .fine); fit = e })) tt
+judged-good n l p (m ∷ ms) (got comment u) go s g f = answers-pick (fits (p .program)) (go p) (refused 5 n) (λ e. f p g) tt
+judged-good n l p (m ∷ ms) (got final u) go s g f = answers-pick (nothing (m ∷ ms)) (accepted (p .program) (add l final p .text)) (refused 2 (n + 1)) (λ e. g) tt
+
+lines-good : (n : ℕ) (p : Reading) (ls : List (List ℕ)) → Good (p .program) → Answers (lines n p ls)
+unfolding lines stepped
+lines-good n p [] g = tt
+lines-good n p (l ∷ ls) g = judged-good n l p ls (statement l) (λ (q : Reading). lines (n + 1) q ls) (statement-reads l) g (λ q h. lines-good (n + 1) q ls h)
+
+none-good : Good none
+unfolding fits sum
+none-good = record { fine = record { atoms = record { rules = tt; entries = tt; symbols = tt }; weights = tt; down = tt }; fit = refl }
+
+headed-good : (ls : List (List ℕ)) → Answers (headed ls)
+headed-good [] = tt
+headed-good (l ∷ []) = answers-pick (same l header) (refused 2 1) (refused 1 1) (λ e. tt) tt
+headed-good (l ∷ m ∷ ms) = answers-pick (same l header) (lines 2 opened (m ∷ ms)) (refused 1 1) (λ e. lines-good 2 opened (m ∷ ms) none-good) tt
+
+text-good : (s : List ℕ) → Answers (textOf s)
+unfolding textOf
+text-good s = answers-pick (ltb 65536 (length s)) (refused 5 0) (headed (pieces s)) (λ e. tt) (headed-good (pieces s))
+
+-- the law
+pub accepted-good : (s : List ℕ) (p : Program) (t : List ℕ) → textOf s ≡ accepted p t → Good p
+accepted-good s p t e = rw e at (text-good s)

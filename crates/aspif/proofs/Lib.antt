@@ -1,0 +1,17 @@
+pub mod Tokens
+pub mod Signs
+pub mod Spans
+pub mod Pieces
+pub mod Heads
+pub mod Added
+pub mod Levels
+pub mod Lines
+pub mod Onwards
+pub mod Texts
+pub mod Writes
+pub mod Accepted
+pub mod RoundTrip
+pub mod Laws
+pub mod Loads
+pub mod Samples
+pub mod Uses

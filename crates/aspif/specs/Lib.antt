@@ -1,0 +1,4 @@
+pub mod Text
+pub mod Seen
+pub mod Store
+pub mod Write

@@ -1,0 +1,180 @@
+// One statement into the tables.
+use super::field::is_ended;
+use super::minimise::MinimiseLine;
+use super::minimise::read_minimise;
+use super::rule::RuleLine;
+use super::rule::read_rule;
+use super::symbol::SymbolLine;
+use super::symbol::read_symbol;
+use super::table::Counts;
+use super::table::flag;
+use super::table::insert_level;
+use super::table::push_row;
+ghost use mathlib.Core.Path.{_≡_};
+ghost use Prim.Native.Nat.{ℕ, _+_, _*_, _<_, _≤_};
+ghost use lib.ListN.{length, drop};
+ghost use lib.IntN.{ℤ, pos};
+ghost use Rattle.asp.specs.Tables.{literalsAt};
+ghost use Rattle.aspif.specs.Seen.{bytesAt};
+ghost use Rattle.aspif.specs.Store.{Within, RulesSound, SymbolsSound, Descending, AddedRule, AddedMinimise, AddedSymbol, otherTurn};
+
+// What a line leads to: a refusal, the end, or the tables with its statement.
+pub enum Turn {
+    Stop { code: u32 },
+    Last { counts: Counts },
+    Goes { counts: Counts },
+}
+
+// A rule.
+pub fn add_rule(
+    s: &[u8],
+    at: usize,
+    pool: &mut [i32],
+    rules: &mut [u16],
+    n: Counts,
+    end: usize,
+) -> Turn
+    requires { ⌜ RulesSound (now pool) (now rules) (n .rules) (n .used) × Within n × (length (now pool) ≡ 18432) × (length (now rules) ≡ 8196) ⌝ }
+    ensures { λ r. ⌜ AddedRule (now (pool .entry)) (now (rules .entry)) (now (pool .exit)) (now (rules .exit)) n end (drop at (now (s .entry))) r ⌝ }
+{
+    let l = read_rule(s, at, pool, n.used, n.atoms);
+    match l {
+        RuleLine::Ruled {
+            choice,
+            heads,
+            body,
+            top,
+        } => {
+            push_row(rules, n.rules, flag(choice), n.used, heads, body);
+            let count = n.rules + 1;
+            let used = n.used + heads + body;
+            Turn::Goes {
+                counts: Counts {
+                    rules: count,
+                    used: used,
+                    entries: n.entries,
+                    levels: n.levels,
+                    symbols: n.symbols,
+                    conditions: n.conditions,
+                    names: n.names,
+                    text: end,
+                    atoms: top,
+                },
+            }
+        }
+        RuleLine::Unruled { code } => Turn::Stop { code: code },
+    }
+}
+
+// A minimise line: its entries and its priority.
+pub fn add_minimise(
+    s: &[u8],
+    at: usize,
+    priorities: &mut [i32],
+    literals: &mut [i32],
+    weights: &mut [u32],
+    levels: &mut [i32],
+    n: Counts,
+    end: usize,
+) -> Turn
+    requires { ⌜ (length (now priorities) ≡ 1536) × (length (now literals) ≡ 1536) × (length (now weights) ≡ 1536) × (length (now levels) ≡ 9) × Within n × Descending (literalsAt (now levels) 0 (n .levels)) ⌝ }
+    ensures { λ r. ⌜ AddedMinimise (now (priorities .entry)) (now (literals .entry)) (now (weights .entry)) (now (levels .entry)) (now (priorities .exit)) (now (literals .exit)) (now (weights .exit)) (now (levels .exit)) n end (drop at (now (s .entry))) r ⌝ }
+{
+    let l = read_minimise(s, at, priorities, literals, weights, n.entries, n.atoms);
+    match l {
+        MinimiseLine::Minimised {
+            priority,
+            count,
+            top,
+        } => {
+            let different = insert_level(levels, n.levels, priority);
+            let entries = n.entries + count;
+            Turn::Goes {
+                counts: Counts {
+                    rules: n.rules,
+                    used: n.used,
+                    entries: entries,
+                    levels: different,
+                    symbols: n.symbols,
+                    conditions: n.conditions,
+                    names: n.names,
+                    text: end,
+                    atoms: top,
+                },
+            }
+        }
+        MinimiseLine::Unminimised { code } => Turn::Stop { code: code },
+    }
+}
+
+// A symbol. Its line stands in the text from n.text on.
+pub fn add_symbol<'a>(
+    s: &'a [u8],
+    at: usize,
+    text: &'a [u8],
+    conditions: &mut [i32],
+    symbols: &mut [u16],
+    n: Counts,
+    end: usize,
+) -> Turn
+    requires { ⌜ SymbolsSound (now text) (now conditions) (now symbols) (n .symbols) (n .conditions) (n .names) (n .text) × Within n × (end ≡ n .text + length (now s) + 1) × (end ≤ 65537) × (length (now conditions) ≡ 3072) × (length (now symbols) ≡ 2052) × ((a m : ℕ) → a + m ≤ length (now s) → bytesAt (now text) (n .text + a) m ≡ bytesAt (now s) a m) ⌝ }
+    ensures { λ r. ⌜ AddedSymbol (now (text .entry)) (now (conditions .entry)) (now (symbols .entry)) (now (conditions .exit)) (now (symbols .exit)) n end (drop at (now (s .entry))) r ⌝ }
+{
+    let l = read_symbol(s, at, conditions, n.conditions, n.atoms);
+    match l {
+        SymbolLine::Named {
+            name,
+            length,
+            shown,
+            top,
+        } => {
+            let first = n.text + name;
+            push_row(symbols, n.symbols, first, length, n.conditions, shown);
+            let count = n.symbols + 1;
+            let used = n.conditions + shown;
+            let names = n.names + length;
+            Turn::Goes {
+                counts: Counts {
+                    rules: n.rules,
+                    used: n.used,
+                    entries: n.entries,
+                    levels: n.levels,
+                    symbols: count,
+                    conditions: used,
+                    names: names,
+                    text: end,
+                    atoms: top,
+                },
+            }
+        }
+        SymbolLine::Nameless { code } => Turn::Stop { code: code },
+    }
+}
+
+// A line of another kind: the `0` line, a comment, or a kind that is not read.
+pub fn add_other(s: &[u8], at: usize, kind: u32, n: Counts, end: usize) -> Turn
+    ensures { λ r. ⌜ r ≡ otherTurn kind (drop at (now (s .entry))) n end ⌝ }
+{
+    if kind == 0 {
+        if is_ended(s, at) {
+            return Turn::Last {
+                counts: Counts {
+                    rules: n.rules,
+                    used: n.used,
+                    entries: n.entries,
+                    levels: n.levels,
+                    symbols: n.symbols,
+                    conditions: n.conditions,
+                    names: n.names,
+                    text: end,
+                    atoms: n.atoms,
+                },
+            };
+        }
+        return Turn::Stop { code: 2 };
+    }
+    if kind == 10 {
+        return Turn::Goes { counts: n };
+    }
+    Turn::Stop { code: 3 }
+}

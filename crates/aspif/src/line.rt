@@ -1,0 +1,82 @@
+// One line into the tables.
+use super::add::Turn;
+use super::add::add_minimise;
+use super::add::add_other;
+use super::add::add_rule;
+use super::add::add_symbol;
+use super::field::Number;
+use super::field::code_of;
+use super::field::read_number;
+use super::table::Counts;
+ghost use mathlib.Core.Path.{_≡_};
+ghost use mathlib.Core.List.{_∷_, _++_};
+ghost use Prim.Native.Nat.{ℕ, _+_, _-_, _<_, _≤_};
+ghost use lib.ListN.{length, take, drop};
+ghost use Rattle.aspif.specs.Text.{pieces, line, stepped};
+ghost use Rattle.aspif.specs.Seen.{follow, bytesAt, Kept};
+ghost use Rattle.aspif.specs.Store.{lists, Sound, Within, readingOf, seenTurn, TurnAfter};
+
+// The position of the next byte 10, or of the end.
+pub fn line_end(s: &[u8], at: usize) -> usize
+    requires { ⌜ at ≤ length (now s) ⌝ }
+    ensures { λ r. ⌜ (at ≤ r) × (r ≤ length (now (s .entry))) × (pieces (drop at (now (s .entry))) ≡ take (r - at) (drop at (now (s .entry))) ∷ follow (drop r (now (s .entry)))) ⌝ }
+{
+    let mut i = at;
+    while i < s.len() {
+        if s[i] == 10 {
+            return i;
+        }
+        i += 1;
+    }
+    i
+}
+
+// The line and its byte 10, after the first `used` bytes of the text.
+pub fn append_line(text: &mut [u8], used: usize, s: &[u8]) -> usize
+    requires { ⌜ used + length (now s) + 1 ≤ length (now text) ⌝ }
+    ensures { λ r. ⌜ (r ≡ used + length (now (s .entry)) + 1) × (bytesAt (now (text .exit)) 0 r ≡ bytesAt (now (text .entry)) 0 used ++ line (now (s .entry))) × Kept 0 used (now (text .entry)) (now (text .exit)) × ((a m : ℕ) → a + m ≤ length (now (s .entry)) → bytesAt (now (text .exit)) (used + a) m ≡ bytesAt (now (s .entry)) a m) ⌝ }
+{
+    let mut i: usize = 0;
+    while i < s.len() {
+        let j = used + i;
+        text[j] = s[i];
+        i += 1;
+    }
+    let j = used + i;
+    text[j] = 10;
+    j + 1
+}
+
+// A line, without its byte 10. It is stored first, since a symbol's name is a part of the stored text; a comment leaves the text at its old length.
+pub fn take_line(
+    s: &[u8],
+    text: &mut [u8],
+    pool: &mut [i32],
+    rules: &mut [u16],
+    priorities: &mut [i32],
+    literals: &mut [i32],
+    weights: &mut [u32],
+    levels: &mut [i32],
+    conditions: &mut [i32],
+    symbols: &mut [u16],
+    n: Counts,
+) -> Turn
+    requires { ⌜ Sound (lists (now text) (now pool) (now rules) (now priorities) (now literals) (now weights) (now levels) (now conditions) (now symbols)) n × Within n × (n .text + length (now s) ≤ 65536) ⌝ }
+    ensures { λ r. ⌜ (seenTurn (lists (now (text .exit)) (now (pool .exit)) (now (rules .exit)) (now (priorities .exit)) (now (literals .exit)) (now (weights .exit)) (now (levels .exit)) (now (conditions .exit)) (now (symbols .exit))) r ≡ stepped (now (s .entry)) (readingOf (lists (now (text .entry)) (now (pool .entry)) (now (rules .entry)) (now (priorities .entry)) (now (literals .entry)) (now (weights .entry)) (now (levels .entry)) (now (conditions .entry)) (now (symbols .entry))) n)) × TurnAfter (lists (now (text .exit)) (now (pool .exit)) (now (rules .exit)) (now (priorities .exit)) (now (literals .exit)) (now (weights .exit)) (now (levels .exit)) (now (conditions .exit)) (now (symbols .exit))) (n .text + length (now (s .entry)) + 1) r ⌝ }
+{
+    let end = append_line(text, n.text, s);
+    let k = read_number(s, 0, 0, 10);
+    let Number::Value { value: kind, next } = k else {
+        return Turn::Stop { code: code_of(k) };
+    };
+    if kind == 1 {
+        return add_rule(s, next, pool, rules, n, end);
+    }
+    if kind == 2 {
+        return add_minimise(s, next, priorities, literals, weights, levels, n, end);
+    }
+    if kind == 4 {
+        return add_symbol(s, next, text, conditions, symbols, n, end);
+    }
+    add_other(s, next, kind, n, end)
+}

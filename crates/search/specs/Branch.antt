@@ -1,0 +1,43 @@
+-- Branching, as DESIGN fixes it: "the complement of that literal, if there is one; else the wished literal of the first assumed soft literal of an entry
+-- whose atom is undecided; else the lowest undecided atom, negative". Assumes nothing: these are definitions.
+use mathlib.Core.List.{List}
+use Prim.Native.Nat.{ℕ, zero, suc, _+_, _-_, _≤_}
+use lib.Dec.{eqb}
+use lib.IntN.{ℤ, pos, negℤ, natAbs}
+use lib.ListN.{getD}
+use Rattle.asp.specs.Sets.{pick}
+use Rattle.search.specs.Soft.{wishOf}
+use Rattle.search.specs.declared.scan.Found.{Found}
+use Rattle.search.specs.declared.scan.Found.the-variants.{Broken, Breaker, Clear}
+use Rattle.search.specs.declared.soft.Wish.{Wish}
+use Rattle.search.specs.declared.soft.Wish.the-variants.{For, Decided}
+
+-- the first undecided atom from a on, among k of them; if there is none, the one after them
+unfoldable pub lowestFrom : List ℕ → ℕ → ℕ → ℕ
+lowestFrom v a zero = a
+lowestFrom v a (suc k) = pick (eqb (getD v a 0) 0) a (lowestFrom v (a + 1) k)
+
+abbrev pub lowestOf : List ℕ → ℕ → ℕ
+lowestOf v n = lowestFrom v 1 (n - 1)
+
+abbrev pub wishedOr : ℤ → Wish → ℤ
+wishedOr l (For w) = w
+wishedOr l Decided = l
+
+-- w: the first k wished literals
+abbrev pub freeBranch : List ℤ → ℕ → List ℕ → ℕ → ℤ
+freeBranch w k v n = wishedOr (negℤ (pos (lowestOf v n))) (wishOf w k v)
+
+abbrev pub branchOf : List ℤ → ℕ → List ℕ → ℕ → Found → ℤ
+branchOf w k v n (Breaker l) = negℤ l
+branchOf w k v n (Broken r) = freeBranch w k v n
+branchOf w k v n Clear = freeBranch w k v n
+
+-- P holds of the literal that the scan noted, if there is one
+abbrev pub NotedAs : (ℤ → Type 0) → Found → Type 0
+NotedAs P (Breaker l) = P l
+NotedAs P (Broken r) = Unit {0}
+NotedAs P Clear = Unit {0}
+
+abbrev pub Noted : Found → Type 0
+Noted = NotedAs (λ l. natAbs l ≤ 1024)

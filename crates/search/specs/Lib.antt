@@ -1,0 +1,9 @@
+pub mod Trail
+pub mod Query
+pub mod Machine
+pub mod Places
+pub mod Scan
+pub mod Soft
+pub mod Branch
+pub mod Step
+pub mod Link

@@ -1,0 +1,95 @@
+-- The scan of the rules under the values of a trail. Document 01: "In the test for failure the scan over rules and their literals is left at the first
+-- broken rule." DESIGN: on the way it notes the first literal that would break a rule if added. Assumes nothing: these are definitions.
+use mathlib.Core.Path.{_≡_}
+use mathlib.Core.Bool.{Bool, true, false}
+use mathlib.Core.List.{List, [], _∷_}
+use Prim.Native.Nat.{ℕ, zero, suc, _+_, _-_, _*_, _<_, _≤_}
+use lib.Dec.{eqb, ltb}
+use lib.IntN.{ℤ, pos, negℤ, natAbs}
+use lib.ListN.{length, getD}
+use Rattle.asp.specs.Sets.{pick}
+use Rattle.asp.specs.Literal.{sameℤ}
+use Rattle.asp.specs.Tables.{span, Row, rowAt}
+use Rattle.search.specs.Places.{truthAt}
+use Rattle.search.specs.declared.scan.Rest.{Rest}
+use Rattle.search.specs.declared.scan.Rest.the-variants.{All, One, Off}
+use Rattle.search.specs.declared.scan.Found.{Found}
+use Rattle.search.specs.declared.scan.Found.the-variants.{Broken, Breaker, Clear}
+
+-- the tables of the rules (see `Tables` of asp): the first `count` rows, and the pool that they point into
+pub record Rules : Type 0 where
+  pub pool : List ℤ
+  pub rows : List ℕ
+  pub count : ℕ
+
+abbrev pub rules : List ℤ → List ℕ → ℕ → Rules
+rules p r k = record { pool = p; rows = r; count = k }
+
+abbrev pub rowOf : Rules → ℕ → Row
+rowOf g r = rowAt (g .rows) r
+
+-- ---- one rule
+
+-- the condition at place k: the complement of a head atom, before mid, or a body literal
+abbrev pub condAt : List ℤ → ℕ → ℕ → ℤ
+condAt pool mid k = pick (ltb k mid) (negℤ (getD pool k (pos 0))) (getD pool k (pos 0))
+
+-- the conditions of a rule: its head's complement and its body
+abbrev pub conditions : List ℤ → Row → List ℤ
+conditions pool w = span (condAt pool (w .b + w .c)) (w .b) (w .c + w .d)
+
+-- a condition that is undecided
+abbrev pub freeOf : Rest → ℤ → Rest
+freeOf All l = One l
+freeOf (One f) l = pick (sameℤ f l) (One f) Off
+freeOf Off l = Off
+
+-- one more condition, by its truth
+abbrev pub meetOf : List ℕ → Rest → ℤ → Rest
+meetOf value s l = pick (eqb (truthAt value l) 1) s (pick (eqb (truthAt value l) 0) (freeOf s l) Off)
+
+-- what is left of conditions: nothing (all are true), one literal, or more, or one is false
+unfoldable pub meets : List ℕ → Rest → List ℤ → Rest
+meets value s [] = s
+meets value s (l ∷ ls) = meets value (meetOf value s l) ls
+
+-- a choice rule, of kind 1, has no conditions that could all be true
+abbrev pub begins : ℕ → Rest
+begins kind = pick (eqb kind 1) Off All
+
+abbrev pub restOf : Rules → List ℕ → ℕ → Rest
+restOf g value r = meets value (begins (rowOf g r .a)) (conditions (g .pool) (rowOf g r))
+
+-- ---- the rules
+
+abbrev pub isAll : Rest → Bool
+isAll All = true
+isAll (One l) = false
+isAll Off = false
+
+abbrev pub isOff : Rest → Bool
+isOff All = false
+isOff (One l) = false
+isOff Off = true
+
+-- the first literal that is left alone is noted
+abbrev pub noteOf : Found → Rest → Found
+noteOf Clear (One l) = Breaker l
+noteOf Clear All = Clear
+noteOf Clear Off = Clear
+noteOf (Breaker f) s = Breaker f
+noteOf (Broken r) s = Broken r
+
+-- the scan of k rules from r on, with what was noted so far
+unfoldable pub scanFrom : (ℕ → Rest) → Found → ℕ → ℕ → Found
+scanFrom p a r zero = a
+scanFrom p a r (suc k) = pick (isAll (p r)) (Broken r) (scanFrom p (noteOf a (p r)) (r + 1) k)
+
+abbrev pub scanOf : Rules → List ℕ → Found
+scanOf g value = scanFrom (restOf g value) Clear 0 (g .count)
+
+-- the tables can be read: each place is inside, and literals are of atoms up to 1,024
+pub record Readable (g : Rules) : Type 0 where
+  pub long : g .count * 4 ≤ length (g .rows)
+  pub inside : (r : ℕ) → r < g .count → rowOf g r .b + rowOf g r .c + rowOf g r .d ≤ length (g .pool)
+  pub small : (r : ℕ) → r < g .count → (k : ℕ) → rowOf g r .b ≤ k → k < rowOf g r .b + rowOf g r .c + rowOf g r .d → natAbs (getD (g .pool) k (pos 0)) ≤ 1024

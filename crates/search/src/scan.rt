@@ -1,0 +1,155 @@
+// The scan over rules and their literals: left at the first broken rule, with the first literal noted that would break one.
+use crate::table;
+use crate::value;
+use asp::literal;
+ghost use mathlib.Core.Path.{_≡_};
+ghost use Prim.Native.Nat.{ℕ, _+_, _*_, _<_, _≤_};
+ghost use lib.ListN.{length, getD};
+ghost use lib.IntN.{pos, natAbs};
+ghost use Rattle.search.specs.Scan.{rules, Readable, condAt, meetOf, begins, freeOf, isAll, isOff, noteOf, scanOf};
+
+// What is left of a rule's conditions: nothing (all are on the trail), one undecided literal, or too much.
+pub enum Rest {
+    All,
+    One(i32),
+    Off,
+}
+
+// What the scan finds: the first broken rule; else the first literal that would break one; else neither.
+pub enum Found {
+    Broken(usize),
+    Breaker(i32),
+    Clear,
+}
+
+// The condition at place k: the complement of a head atom, before mid, or a body literal.
+fn condition(pool: &[i32], mid: usize, k: usize) -> i32
+    requires { ⌜ k < length (now pool) ⌝ }
+    requires { ⌜ natAbs (getD (now pool) k (pos 0)) ≤ 1024 ⌝ }
+    ensures { λ r. ⌜ r ≡ condAt (now (pool .entry)) mid k ⌝ }
+{
+    let l = table::literal_at(pool, k);
+    if k < mid { literal::complement(l) } else { l }
+}
+
+// A condition that is undecided.
+fn free(rest: Rest, l: i32) -> Rest
+    ensures { λ r. ⌜ r ≡ freeOf rest l ⌝ }
+{
+    match rest {
+        Rest::All => Rest::One(l),
+        Rest::One(f) => {
+            if literal::equal(f, l) {
+                rest
+            } else {
+                Rest::Off
+            }
+        }
+        Rest::Off => Rest::Off,
+    }
+}
+
+// One more condition.
+fn meet(value: &[u8; 1025], rest: Rest, l: i32) -> Rest
+    requires { ⌜ natAbs l ≤ 1024 ⌝ }
+    ensures { λ r. ⌜ r ≡ meetOf (now (value .entry)) rest l ⌝ }
+{
+    let x = value::truth(value, l);
+    if x == 1 {
+        return rest;
+    }
+    if x == 0 {
+        return free(rest, l);
+    }
+    Rest::Off
+}
+
+// The condition at place k is met.
+fn meet_at<'a>(pool: &'a [i32], value: &'a [u8; 1025], rest: Rest, mid: usize, k: usize) -> Rest
+    requires { ⌜ k < length (now pool) ⌝ }
+    requires { ⌜ natAbs (getD (now pool) k (pos 0)) ≤ 1024 ⌝ }
+    ensures { λ r. ⌜ r ≡ meetOf (now (value .entry)) rest (condAt (now (pool .entry)) mid k) ⌝ }
+{
+    meet(value, rest, condition(pool, mid, k))
+}
+
+// A choice rule has no conditions that could all be on the trail.
+fn begin(rows: &[u16], r: usize) -> Rest
+    requires { ⌜ r * 4 < length (now rows) ⌝ }
+    ensures { λ s. ⌜ s ≡ begins (getD (now (rows .entry)) (r * 4) 0) ⌝ }
+{
+    if rows[r * 4] == 1 {
+        Rest::Off
+    } else {
+        Rest::All
+    }
+}
+
+fn all(rest: Rest) -> bool
+    ensures { λ r. ⌜ r ≡ isAll rest ⌝ }
+{
+    match rest {
+        Rest::All => true,
+        Rest::One(_) => false,
+        Rest::Off => false,
+    }
+}
+
+fn off(rest: Rest) -> bool
+    ensures { λ r. ⌜ r ≡ isOff rest ⌝ }
+{
+    match rest {
+        Rest::All => false,
+        Rest::One(_) => false,
+        Rest::Off => true,
+    }
+}
+
+// The first literal that is left alone is noted.
+fn note(found: Found, rest: Rest) -> Found
+    ensures { λ r. ⌜ r ≡ noteOf found rest ⌝ }
+{
+    match found {
+        Found::Broken(_) => found,
+        Found::Breaker(_) => found,
+        Found::Clear => match rest {
+            Rest::All => found,
+            Rest::One(l) => Found::Breaker(l),
+            Rest::Off => found,
+        },
+    }
+}
+
+// The scan of the rules under the values of a trail.
+pub fn scan<'a>(pool: &'a [i32], rows: &'a [u16], count: usize, value: &'a [u8; 1025]) -> Found
+    requires { ⌜ Readable (rules (now pool) (now rows) count) ⌝ }
+    ensures { λ r. ⌜ r ≡ scanOf (rules (now (pool .entry)) (now (rows .entry)) count) (now (value .entry)) ⌝ }
+{
+    let mut found = Found::Clear;
+    let mut r: usize = 0;
+    'rules: while r < count {
+        let first = table::number(rows, r, 1);
+        let mid = first + table::number(rows, r, 2);
+        let end = mid + table::number(rows, r, 3);
+        let mut rest = begin(rows, r);
+        let mut k = first;
+        loop {
+            if end <= k {
+                if all(rest) {
+                    found = Found::Broken(r);
+                    break 'rules;
+                }
+                found = note(found, rest);
+                r += 1;
+                continue 'rules;
+            }
+            rest = meet_at(pool, value, rest, mid, k);
+            if off(rest) {
+                r += 1;
+                continue 'rules;
+            }
+            k += 1;
+        }
+    }
+    found
+}

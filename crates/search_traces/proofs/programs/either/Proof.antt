@@ -1,0 +1,45 @@
+-- `search_traces::programs::either` meets its contract.
+-- Assumes nothing.
+use Rattle.search_traces.proofs.Checked.{formed, wished}
+use Rattle.asp.specs.Tables.{span}
+use borrow.Author.Needs.{needs}
+use Rattle.search_traces.proofs.programs.either.Statement.{statement}
+use Rattle.search_traces.proofs.programs.either.Tie as tie
+
+slice-aggregate-say : tie.Need-slice-aggregate-say
+slice-aggregate-say c = search needs
+
+say-requires : tie.Need-say-requires
+say-requires c κs = search needs
+
+slice-aggregate-run : tie.Need-slice-aggregate-run
+slice-aggregate-run c = search needs
+
+slice-aggregate-run-2 : tie.Need-slice-aggregate-run-2
+slice-aggregate-run-2 c = search needs
+
+slice-aggregate-run-3 : tie.Need-slice-aggregate-run-3
+slice-aggregate-run-3 c = search needs
+
+slice-aggregate-run-4 : tie.Need-slice-aggregate-run-4
+slice-aggregate-run-4 c = search needs
+
+run-requires : tie.Need-run-requires
+unfolding span
+run-requires c κs = (formed _ _ _ _ tt, wished _ _ _ tt)
+
+returns : tie.Need-returns
+returns c = search needs
+
+pub either-spec : {M : Type 1} → statement M
+either-spec =
+    tie.close
+    (tie.spec
+    slice-aggregate-say
+    say-requires
+    slice-aggregate-run
+    slice-aggregate-run-2
+    slice-aggregate-run-3
+    slice-aggregate-run-4
+    run-requires
+    returns)

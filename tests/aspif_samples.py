@@ -1,0 +1,73 @@
+#!/usr/bin/env python3
+"""Writes crates/aspif/proofs/Samples.antt: texts of document 01 with the answers that it gives, proved by computation."""
+import os
+H = "asp 1 0 0\n"
+PLAN = H + "1 1 2 1 2 0 0\n1 0 1 3 0 2 1 2\n1 0 0 0 2 -1 -2\n2 1 2 1 2 2 3\n4 1 a 1 1\n4 1 b 1 2\n0\n"
+CASES = [
+    ("no text", "", (1, 1)),
+    ("line 1 without its byte 10", "asp 1 0 0", (2, 1)),
+    ("line 1 differs", "asp 1 0 1\n0\n", (1, 1)),
+    ("no `0` line: at the line after the last", H, (2, 2)),
+    ("the `0` line without its byte 10", H + "0", (2, 2)),
+    ("after the `0` line: at the next line", H + "0\n\n", (2, 3)),
+    ("`01` is 2", H + "1 0 1 01 0 0\n0\n", (2, 2)),
+    ("a field is judged whole", H + "3x\n0\n", (2, 2)),
+    ("kind 3, the rest isn't read", H + "3 01", (3, 2)),
+    ("kind 11", H + "11\n0\n", (4, 2)),
+    ("h = 0 with m = 2", H + "1 0 2 1", (3, 2)),
+    ("h = 0 with m = 1,025: range before accepted part", H + "1 0 1025", (4, 2)),
+    ("b = 1", H + "1 0 0 1", (3, 2)),
+    ("atom 1,025 is 4", H + "1 0 1 1025 0 0\n0\n", (4, 2)),
+    ("literal 0", H + "1 0 0 0 1 0\n0\n", (4, 2)),
+    ("literal -0", H + "1 0 0 0 1 -0\n0\n", (2, 2)),
+    ("an atom with a minus", H + "1 0 1 -1 0 0\n0\n", (2, 2)),
+    ("a space at the end", H + "1 0 0 0 0 \n0\n", (2, 2)),
+    ("priority -1,001", H + "2 -1001 0\n0\n", (4, 2)),
+    ("weight 1,000,001", H + "2 0 1 1 1000001\n0\n", (4, 2)),
+    ("a name byte 127", H + "4 1 \x7f 0\n0\n", (2, 2)),
+    ("a 65-byte name is 4", H + "4 65 " + "n" * 65 + " 0\n0\n", (4, 2)),
+    ("nine priorities are 5", H + "".join(f"2 {q} 0\n" for q in range(9)) + "0\n", (5, 10)),
+]
+
+def lits(text):
+    return "".join(f"{ord(c)} ∷ " for c in text) + "[]"
+
+OPEN = "unfolding textOf pieces same lines stepped statement token number digits decimal natural signed atom literal more opening bodyCount ruleLine pair minimiseLine symbolLine ofKind fits sum insert"
+out = ["-- Texts of document 01 with the answers that it gives, each by computation. Written by tests/aspif_samples.py. Assumes nothing.",
+       "use mathlib.Core.Path.{_≡_, refl}",
+       "use mathlib.Core.Bool.{true, false}",
+       "use mathlib.Core.List.{List, [], _∷_, map}",
+       "use Prim.Native.Nat.{ℕ}",
+       "use lib.IntN.{ℤ, pos, negsuc}",
+       "use Rattle.asp.specs.Program.{normal, constraint, plain, choice, Rule, Entry, Symbol, Program}",
+       "use Rattle.aspif.specs.Text.{textOf, pieces, same, lines, stepped, statement, token, number, digits, decimal, natural, signed, atom, literal, more, opening, bodyCount, ruleLine, pair, minimiseLine, symbolLine, ofKind, fits, sum, insert, Answer, accepted, refused}",
+       "",
+       "-- ---- `plan.aspif`", "",
+       "abbrev pub plan : List ℕ", "plan = " + lits(PLAN), "",
+       "abbrev pub planProgram : Program",
+       "planProgram =",
+       "    record {",
+       "      rules =",
+       "          record { head = choice (1 ∷ 2 ∷ []); body = normal [] }",
+       "          ∷ record { head = plain 3; body = normal (pos 1 ∷ pos 2 ∷ []) }",
+       "          ∷ record { head = constraint; body = normal (negsuc 0 ∷ negsuc 1 ∷ []) }",
+       "          ∷ [];",
+       "      priorities = pos 1 ∷ [];",
+       "      entries = record { priority = pos 1; literal = pos 1; weight = 2 } ∷ record { priority = pos 1; literal = pos 2; weight = 3 } ∷ [];",
+       "      symbols = record { name = 97 ∷ []; condition = pos 1 ∷ [] } ∷ record { name = 98 ∷ []; condition = pos 2 ∷ [] } ∷ [];",
+       "    }", "",
+       "pub plan-reads : textOf plan ≡ accepted planProgram plan", OPEN, "plan-reads = refl", "",
+       "-- with a comment before its first statement it is stored without it", "",
+       "pub plan-remarked : textOf (" + lits(PLAN.replace(H, H + "10 x\n")) + ") ≡ accepted planProgram plan", OPEN, "plan-remarked = refl", "",
+       "-- ---- priorities, highest first, each once", "",
+       "pub levels-sorted : textOf (" + lits(H + "2 -3 0\n2 7 0\n2 0 0\n2 7 0\n0\n") + ") ≡ accepted (record { rules = []; priorities = pos 7 ∷ pos 0 ∷ negsuc 2 ∷ []; entries = []; symbols = [] }) (" + lits(H + "2 -3 0\n2 7 0\n2 0 0\n2 7 0\n0\n") + ")", OPEN, "levels-sorted = refl", "",
+       "-- ---- refusals, as one table", "",
+       "pub record Case : Type 0 where", "  pub text : List ℕ", "  pub number : ℕ", "  pub line : ℕ", "",
+       "abbrev pub cases : List Case", "cases ="]
+for name, text, (c, n) in CASES:
+    out.append(f"    -- {name}")
+    out.append(f"    record {{ text = {lits(text)}; number = {c}; line = {n} }} ∷")
+out += ["    []", "",
+        "pub refusals : map (λ (c : Case). textOf (c .text)) cases ≡ map (λ (c : Case). refused (c .number) (c .line)) cases", OPEN, "refusals = refl", ""]
+here = os.path.dirname(os.path.abspath(__file__))
+open(os.path.join(os.path.dirname(here), "crates/aspif/proofs/Samples.antt"), "w").write("\n".join(out))
