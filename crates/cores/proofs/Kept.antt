@@ -1,0 +1,239 @@
+-- What crate `optimizer` needs at each point: the tables stay sound, the bounds stay small, and what a query's answer says. Assumes nothing.
+use mathlib.Core.Path.{_≡_, refl, sym, ap, ap₂, _∙_, subst}
+use mathlib.Core.Bool.{Bool, true, false}
+use mathlib.Core.List.{List, [], _∷_, _++_, map}
+use Prim.Native.Nat.{ℕ, zero, suc, _+_, _-_, _*_, _≤_, _<_, zero-le, suc-le-suc}
+use native.Mathlib.Nat.{zero-add, not-suc-le-zero}
+use native.Mathlib.Omega.{arith}
+use lib.Dec.{ltb, leb}
+use lib.IntN.{ℤ, pos, natAbs, negℤ}
+use lib.ListN.{length, getD, take, replicate, length-map, length-replicate, getD-replicate}
+use lib.Seq.{sets}
+use borrow.Author.Tests.{ltb-true, ltb-false}
+use Rattle.asp.specs.Sets.{Set, pick}
+use Rattle.asp.specs.Literal.{sameℤ}
+use Rattle.asp.specs.Program.{Entry, All}
+use Rattle.asp.specs.Cost.{total, cost, weight, level}
+use Rattle.cores.specs.declared.level.LevelTables.{LevelTables}
+use Rattle.cores.specs.declared.judge.Judged.{Judged}
+use Rattle.cores.specs.declared.judge.Judged.the-variants.{Met, Violated}
+use Rattle.cores.specs.Sums.{ind, wsum, Distinct, Holds}
+use Rattle.cores.specs.Soft.{violated, InOrder}
+use Rattle.cores.specs.Level.{Level, weighty, opened, greatest, under, assumedFrom, assumed, recorded, fewer, fits, room, FormedEntries}
+use Rattle.cores.specs.Identity.{Problem, problem, Good, Core, violatedWeight, remaining}
+use Rattle.cores.specs.Judging.{firstViolated}
+use Rattle.cores.specs.Columns.{Listed, listed, assumedOf, Pairs, entriesOf}
+use Rattle.cores.specs.Tables.{entrySoft, emptyTables, Tried, softsOf, openedTables, heldIn, recordedTables, Counted, Room, triedTables, tried, levelOf, FormedTables, Sound}
+use Rattle.cores.proofs.Sums.{members-weigh, wsum-replicate-one}
+use Rattle.cores.proofs.Judgements.{all-map}
+use Rattle.cores.proofs.Record.{in-order}
+use Rattle.cores.proofs.Open.{opened-good, weights-sum, length-weighty, length-level}
+use Rattle.cores.proofs.Strata.{greatest-le, under-none, under-all, every-assumed}
+use Rattle.cores.proofs.Limits as Limits
+use Rattle.cores.proofs.Limits.{Run, run-sound, opened-fits, kth, has-room, met-costs-lower, lower-within}
+use Rattle.cores.proofs.Members.{all-at}
+use Rattle.cores.proofs.Loops.{try-room}
+use Rattle.cores.proofs.Links.{kinds-count, rests-count, cores-count, fits-room, counted, opened-level, opened-formed, recorded-level, recorded-formed, take-sets}
+
+-- ---- entries
+
+weighty-all : (P : Entry → Type 0) (es : List Entry) → All P es → All P (weighty es)
+unfolding weighty
+weighty-all P [] a = tt
+weighty-all P (e ∷ es) a =
+    elim (ltb 0 (e .weight)) as (λ b. All P (pick b (e ∷ weighty es) (weighty es))) [ true ↦ (a .0, weighty-all P es (a .1)) | false ↦ weighty-all P es (a .1) ]
+
+level-all : (P : Entry → Type 0) (q : ℤ) (es : List Entry) → All P es → All P (level q es)
+unfolding level
+level-all P q [] a = tt
+level-all P q (e ∷ es) a =
+    elim (sameℤ q (e .priority)) as (λ b. All P (pick b (e ∷ level q es) (level q es))) [ true ↦ (a .0, level-all P q es (a .1)) | false ↦ level-all P q es (a .1) ]
+
+weight-most : (n : ℕ) (es : List Entry) → All (λ (e : Entry). e .weight ≤ n) es → weight es ≤ length es * n
+unfolding total
+weight-most n [] a = zero-le
+weight-most n (e ∷ es) a = omega (arith, a .0, weight-most n es (a .1))
+
+module _ (es : List Entry) (f : FormedEntries es) (q : ℤ) where
+  pub level-formed : FormedEntries (level q es)
+  level-formed = record {
+    few = omega (arith, f .few, length-level q es);
+    atoms = level-all (λ e. natAbs (e .literal) ≤ 1024) q es (f .atoms);
+    weights = level-all (λ e. e .weight ≤ 1000000) q es (f .weights);
+  }
+
+-- a level weighs at most 512,000,000
+pub level-weight : (es : List Entry) → FormedEntries es → weight es ≤ 512000000
+level-weight es f = omega (arith, weight-most 1000000 es (f .weights), f .few)
+
+-- ---- a level is opened
+
+-- THE TABLES OF A LEVEL THAT IS OPENED ARE SOUND, AND MEAN IT
+module _ (es : List Entry) (f : FormedEntries es) where
+  softs-few : length (softsOf es) ≤ 4096
+  softs-few = omega (arith, length-map (weighty es) (λ (e : Entry). entrySoft (e .literal) (e .weight)), length-weighty es, f .few)
+
+  pub opened-means : levelOf (openedTables es) ≡ opened es
+  opened-means = opened-level es softs-few
+
+  pub opened-sound : Sound (openedTables es)
+  opened-sound = record {
+    formed = opened-formed es softs-few (weighty-all (λ e. natAbs (e .literal) ≤ 1024) es (f .atoms));
+    ordered = subst (λ (l : Level). InOrder (l .kinds) (l .cores)) (sym opened-means) (opened-good (λ M. ⊥) es .ordered);
+  }
+
+  weights-below : (xs : List Entry) → All (λ (e : Entry). e .weight ≤ 1000000) xs → All (λ w. w < 1000001) (map (λ (e : Entry). e .weight) xs)
+  weights-below [] a = tt
+  weights-below (x ∷ xs) a = (omega (arith, a .0), weights-below xs (a .1))
+
+  -- the first stratum, "the greatest remaining weight", is the greatest below 1,000,001
+  pub first-stratum : under 1000001 (levelOf (openedTables es) .rests) ≡ greatest (opened es .rests)
+  first-stratum = ap (λ (l : Level). under 1000001 (l .rests)) opened-means ∙ under-all 1000001 (opened es .rests) (weights-below (weighty es) (weighty-all (λ e. e .weight ≤ 1000000) es (f .weights)))
+
+-- ---- a core is recorded
+
+module _ (t : LevelTables) (ok : Sound t) (s : ℕ) (ms : List ℕ) where
+  -- what is asked of a core that `record_core` takes
+  pub core-counted : 1 ≤ length ms → length ms ≤ 4096 → Counted t (length ms)
+  core-counted = counted t (ok .formed) (length ms)
+
+  module _ (r : Room t (length ms)) (inside : All (λ m. m < t .count) ms) where
+    -- RECORDING KEEPS THE TABLES SOUND, AND MEANS RECORDING
+    pub recorded-means : levelOf (recordedTables t s ms) ≡ recorded (levelOf t) s ms
+    recorded-means = recorded-level t s ms (ok .formed) r inside
+
+    pub recorded-sound : Sound (recordedTables t s ms)
+    recorded-sound = record {
+      formed = recorded-formed t s ms (ok .formed) r inside;
+      ordered =
+          subst (λ (l : Level). InOrder (l .kinds) (l .cores)) (sym recorded-means)
+          (in-order (levelOf t .kinds) (levelOf t .cores) (ok .ordered) ms (all-map ms (λ m h. subst (λ (n : ℕ). m < n) (sym (kinds-count t (ok .formed))) h) inside) (fewer ms));
+    }
+
+-- what recording asks, of a core of the level
+module _ (P : Problem) (t : LevelTables) (ok : Sound t) (s : ℕ) (ms : List ℕ) (g : Good P (levelOf t)) (c : Core P (levelOf t) s ms) where
+  pub core-inside : All (λ m. m < t .count) ms
+  core-inside = all-map ms (λ m h. subst (λ (n : ℕ). m < n) (rests-count t (ok .formed)) (h .0)) (c .heavy)
+
+  pub core-places : All (λ m. m < 4096) ms
+  core-places = all-map ms (λ m h. omega (arith, ok .formed .softs-few)) core-inside
+
+  pub core-bound : P .whole ≤ 1000000000 → t .lower + s ≤ 1000000000
+  core-bound w = omega (arith, lower-within P (levelOf t) s ms g c)
+
+-- ---- what a judged list says
+
+met-list : (U : ℕ → Bool) (ps : List ℕ) → firstViolated U ps ≡ Met → All (λ p. U p ≡ false) ps
+unfolding firstViolated
+met-list U [] e = tt
+met-list U (p ∷ ps) e = go (U p) refl e (met-list U ps)
+  where
+    go : (b : Bool) → U p ≡ b → pick b (Violated p) (firstViolated U ps) ≡ Met → (firstViolated U ps ≡ Met → All (λ p. U p ≡ false) ps) → All (λ p. U p ≡ false) (p ∷ ps)
+    go true q e f = let z : _≡_ {A = ℕ} 0 1 = cc in absurd (omega arith)
+    go false q e f = (q, f e)
+
+-- none is violated
+pub all-met : (U : ℕ → Bool) (ps : List ℕ) → firstViolated U ps ≡ Met → All (λ p. U p ≡ false) ps
+all-met U ps e = met-list U ps e
+
+-- the one found is violated, and is one of the list: what holds of all holds of it
+pub one-violated : (U : ℕ → Bool) (ps : List ℕ) (p : ℕ) → firstViolated U ps ≡ Violated p → (U p ≡ true) × ((P : ℕ → Type 0) → All P ps → P p)
+unfolding firstViolated
+one-violated U [] p e = let z : _≡_ {A = ℕ} 0 1 = cc in absurd (omega arith)
+one-violated U (x ∷ ps) p e = go (U x) refl e (one-violated U ps p)
+  where
+    go : (b : Bool) → U x ≡ b → pick b (Violated x) (firstViolated U ps) ≡ Violated p → (firstViolated U ps ≡ Violated p → (U p ≡ true) × ((P : ℕ → Type 0) → All P ps → P p))
+        → (U p ≡ true) × ((P : ℕ → Type 0) → All P (x ∷ ps) → P p)
+    go true q e f = let w : x ≡ p = cc in (sym (ap U w) ∙ q, λ P a. subst P w (a .0))
+    go false q e f = (f e .0, λ P a. f e .1 P (a .1))
+
+-- the list that `assumed` leaves at the front of its array
+pub assumed-front : (s : ℕ) (ws ps : List ℕ) → length (assumedFrom s 0 ws) ≤ length ps → take (assumedOf s ws ps .count) (assumedOf s ws ps .places) ≡ assumedFrom s 0 ws
+assumed-front s ws ps h =
+    ap (λ (n : ℕ). take n (sets ps 0 (assumedFrom s 0 ws))) (sym (zero-add (length (assumedFrom s 0 ws)))) ∙ take-sets ps 0 (assumedFrom s 0 ws) (omega arith)
+
+-- and those that `entries` leaves
+pub entries-front : (ls : List ℤ) (ps : List ℕ) (t : Pairs) → length ps ≤ length (t .places) → take (entriesOf ls ps t .count) (entriesOf ls ps t .pairs .places) ≡ ps
+entries-front ls ps t h = ap (λ (n : ℕ). take n (sets (t .places) 0 ps)) (sym (zero-add (length ps))) ∙ take-sets (t .places) 0 ps (omega arith)
+
+pub wishes-front : (ls : List ℤ) (ps : List ℕ) (t : Pairs) → length ps ≤ length (t .wishes)
+    → take (entriesOf ls ps t .count) (entriesOf ls ps t .pairs .wishes) ≡ map (λ (p : ℕ). negℤ (getD ls p (pos 0))) ps
+wishes-front ls ps t h =
+    let e : length (map (λ (p : ℕ). negℤ (getD ls p (pos 0))) ps) ≡ length ps = length-map ps (λ (p : ℕ). negℤ (getD ls p (pos 0))) in
+    ap (λ (n : ℕ). take n (sets (t .wishes) 0 (map (λ (p : ℕ). negℤ (getD ls p (pos 0))) ps))) (sym e ∙ sym (zero-add _))
+    ∙ take-sets (t .wishes) 0 (map (λ (p : ℕ). negℤ (getD ls p (pos 0))) ps) (omega arith)
+
+-- ---- places that are distinct, below n, are n at most: a list of blamed places never passes its array
+
+ones-hold : (n m : ℕ) → m < n → Holds 1 (replicate n 1) m
+ones-hold n m h = (rw length-replicate h, rw (getD-replicate {A = ℕ} n m 1 0 h) (omega arith))
+
+pub distinct-few : (n : ℕ) (ms : List ℕ) → Distinct ms → All (λ m. m < n) ms → length ms ≤ n
+distinct-few n ms d a =
+    omega (arith, members-weigh 1 ms (replicate n 1) d (all-map ms (λ m h. ones-hold n m h) a), wsum-replicate-one 1 n)
+
+-- ---- the end of a level
+
+-- A MODEL THAT MEETS WHAT THE QUERY ASSUMES, WITH NO WEIGHT LEFT BELOW THE STRATUM, COSTS THE LOWER BOUND
+pub met-settles : (P : Problem) (l : Level) → Good P l → (M : Set) → P .Model M → (s : ℕ) → under s (l .rests) ≡ 0
+    → All (λ p. violated M (l .kinds) (l .cores) p ≡ false) (assumed s l) → P .costOf M ≡ l .lower
+met-settles P l g M h s z a =
+    met-costs-lower P l g M h (λ p i w. every-assumed s (λ x. violated M (l .kinds) (l .cores) x ≡ false) (l .rests) a p (i, under-none s (l .rests) z p i w))
+
+-- ---- the empty tables, and a core that was tried
+
+pub empty-sound : Sound emptyTables
+unfolding weighty
+empty-sound = opened-sound [] (record { few = zero-le; atoms = tt; weights = tt })
+
+-- RECORDED OR FULL, THE TABLES STAY SOUND
+pub tried-sound : (t : LevelTables) → Sound t → (s : ℕ) (ms : List ℕ) → Counted t (length ms) → All (λ m. m < t .count) ms → {b : Bool} {u : LevelTables} → tried b u ≡ triedTables t s ms → Sound u
+tried-sound t ok s ms c inside {b} {u} e = go (fits (t .count) (heldIn t) (length ms)) refl
+  where
+    go : (x : Bool) → fits (t .count) (heldIn t) (length ms) ≡ x → Sound u
+    go true q =
+        let w : u ≡ recordedTables t s ms = ap (λ (z : Tried). z .tables) (rw q at e) in
+        let r : Room t (length ms) = try-room t s ms c refl refl q in
+        subst Sound (sym w) (recorded-sound t ok s ms r inside)
+    go false q = let w : u ≡ t = ap (λ (z : Tried). z .tables) (rw q at e) in subst Sound (sym w) ok
+
+-- ---- on a level: from opening it, over any cores and falls of the stratum
+
+module _ (Model : Set → Type 0) (es : List Entry) (s1 : 1 ≤ greatest (opened es .rests)) where
+  abbrev P : Problem
+  P = problem Model es
+
+  -- k cores were recorded and the stratum fell f times, and stands at s
+  abbrev pub Reached : Level → ℕ → ℕ → ℕ → Type 0
+  Reached l s f k = Run P (opened es) (greatest (opened es .rests)) l s f k
+
+  reached-sound : {l : Level} {s f k : ℕ} → Reached l s f k → Limits.Sound P (greatest (opened es .rests)) l s f k
+  reached-sound r = run-sound P (opened es) (greatest (opened es .rests)) (opened-good Model es) (opened-fits P es refl) refl s1 r
+
+  -- THE IDENTITY, AT EVERY POINT
+  pub identity-everywhere : {l : Level} {s f k : ℕ} → Reached l s f k → (M : Set) → Model M → cost M es ≡ l .lower + violatedWeight M l
+  identity-everywhere r M h = reached-sound r .good .identity M h
+
+  pub weight-everywhere : {l : Level} {s f k : ℕ} → Reached l s f k → l .lower + remaining l ≡ weight es
+  weight-everywhere r = reached-sound r .good .weighs
+
+  -- cores so far are at most the lower bound, falls fewer than the first stratum: with the query in work at most 2 w queries on a level of weight w
+  pub cores-few : {l : Level} {s f k : ℕ} → Reached l s f k → k ≤ l .lower
+  cores-few r = omega (arith, reached-sound r .fits .cores-fit, reached-sound r .cores-are)
+
+  pub falls-few : {l : Level} {s f k : ℕ} → Reached l s f k → f + s ≤ greatest (opened es .rests)
+  falls-few r = reached-sound r .falls-few
+
+  pub queries-few : {l : Level} {s f k : ℕ} → Reached l s f k → k + f < weight es + weight es
+  queries-few r =
+      omega (arith, cores-few r, reached-sound r .falls-few, reached-sound r .positive, reached-sound r .good .weighs, greatest-le (opened es .rests), weights-sum es)
+
+  -- the k-th core has at most w + 1 - k members
+  pub core-size : {l : Level} {s f k : ℕ} → Reached l s f k → (ms : List ℕ) → Core P l s ms → length ms + suc k ≤ suc (weight es)
+  core-size {l} {s} r ms c =
+      let z = reached-sound r in
+      omega (arith, kth P l s ms (z .good) c (z .positive) (z .fits), z .cores-are)
+
+  -- A LEVEL OF WEIGHT 90 OR LESS IS NEVER FULL
+  pub never-full : weight es ≤ 90 → {l : Level} {s f k : ℕ} → Reached l s f k → (ms : List ℕ) → Core P l s ms → room l ms ≡ true
+  never-full w {l} {s} r ms c = let z = reached-sound r in has-room P l s ms (z .good) c (z .positive) (z .fits) w

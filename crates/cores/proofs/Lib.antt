@@ -1,0 +1,15 @@
+pub mod Sums
+pub mod Judgements
+pub mod Record
+pub mod Open
+pub mod Strata
+pub mod Limits
+pub mod Members
+pub mod Sample
+pub mod Loops
+pub mod Spans
+pub mod Columns
+pub mod Queries
+pub mod Links
+pub mod Unpacked
+pub mod Kept

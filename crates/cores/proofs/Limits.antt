@@ -1,0 +1,186 @@
+-- The limits of the tables over any sequence of cores, the count of queries, and the end. Assumes nothing.
+use mathlib.Core.Path.{_≡_, refl, sym, ap, _∙_, subst}
+use mathlib.Core.Bool.{Bool, true, false, not, _&&_}
+use mathlib.Core.List.{List, [], _∷_, _++_, map}
+use Prim.Native.Nat.{ℕ, zero, suc, _+_, _-_, _*_, _≤_, _<_, zero-le, suc-le-suc}
+use native.Mathlib.Nat.{le-trans, le-of-suc-le-suc, not-suc-le-zero, mul-le-mul-right}
+use native.Mathlib.Omega.{arith}
+use borrow.Author.Tests.{le-leb}
+use lib.Dec.{leb}
+use lib.ListN.{length, getD, replicate, length-replicate, length-append}
+use Rattle.asp.specs.Sets.{Set}
+use Rattle.asp.specs.Program.{Entry}
+use Rattle.asp.specs.Cost.{weight}
+use Rattle.cores.specs.Sums.{ind, wsum, lose}
+use Rattle.cores.specs.Soft.{violated}
+use Rattle.cores.specs.Level.{Level, weighty, opened, under, recorded, fewer, held, fits, room}
+use Rattle.cores.specs.Identity.{Problem, Good, Core, remaining}
+use Rattle.cores.proofs.Sums.{wsum-none, length-lose, members-weigh, each-weighs}
+use Rattle.cores.proofs.Record.{fewer-is, kept}
+use Rattle.cores.proofs.Strata.{under-lt}
+use Rattle.cores.proofs.Open.{weightsOf, weights-sum, weights-some}
+
+-- ---- 1 + 2 + .. + n, and 0 + 1 + .. + (n - 1)
+
+abbrev pub tri : ℕ → ℕ
+tri zero = 0
+tri (suc n) = tri n + suc n
+
+abbrev pub low : ℕ → ℕ
+low zero = 0
+low (suc n) = low n + n
+
+tri-low : (n : ℕ) → tri n ≡ low n + n
+tri-low zero = refl
+tri-low (suc n) = omega (arith, tri-low n)
+
+tri-mono : {a b : ℕ} → a ≤ b → tri a ≤ tri b
+tri-mono zero-le = zero-le
+tri-mono (suc-le-suc h) = omega (arith, tri-mono h)
+
+low-mono : {a b : ℕ} → a ≤ b → low a ≤ low b
+low-mono zero-le = zero-le
+low-mono (suc-le-suc h) = omega (arith, low-mono h)
+
+-- from r down to r′, at least one less, there is room for r members
+tri-room : (m r r′ : ℕ) → m ≤ r → r′ < r → m + tri r′ ≤ tri r
+tri-room m zero r′ h l = absurd (not-suc-le-zero l)
+tri-room m (suc r) r′ h l = omega (arith, tri-mono (le-of-suc-le-suc l))
+
+-- and for one fewer new soft literals
+low-room : (m r r′ : ℕ) → suc m ≤ r → r′ < r → m + low r′ ≤ low r
+low-room m zero r′ h l = absurd (not-suc-le-zero l)
+low-room m (suc r) r′ h l = omega (arith, low-mono (le-of-suc-le-suc l))
+
+-- ---- the members of all cores
+
+pub held-append : (cs : List (List ℕ)) (ms : List ℕ) → held (cs ++ (ms ∷ [])) ≡ held cs + length ms
+unfolding held
+held-append [] ms = omega arith
+held-append (c ∷ cs) ms = omega (arith, held-append cs ms)
+
+module _ (P : Problem) where
+  open Problem P using (Model, costOf, whole)
+
+  pub record Fits (l : Level) : Type 0 where
+    pub cores-fit : length (l .cores) ≤ l .lower
+    pub members-fit : held (l .cores) + tri (remaining l) ≤ tri whole
+    pub softs-fit : length (l .rests) + low (remaining l) ≤ tri whole
+
+  pub opened-fits : (es : List Entry) → weight es ≡ whole → Fits (opened es)
+  unfolding held
+  opened-fits es w =
+      let ws : List ℕ = weightsOf (weighty es) in
+      let e : wsum (λ p. 1) ws ≡ whole = weights-sum es ∙ w in
+      record { cores-fit = zero-le; members-fit = omega (arith, ap tri e); softs-fit = omega (arith, e, ap tri e, tri-low (wsum (λ p. 1) ws), each-weighs ws (weights-some es)) }
+
+  module _ (l : Level) (s : ℕ) (ms : List ℕ) (g : Good P l) (c : Core P l s ms) (s1 : 1 ≤ s) where
+    few : length ms ≤ remaining l
+    few = omega (arith, mul-le-mul-right (length ms) s1, members-weigh s ms (l .rests) (c .distinct) (c .heavy))
+
+    falls : remaining (recorded l s ms) + s ≡ remaining l
+    falls = omega (arith, g .weighs, kept P l s ms g c .weighs)
+
+    -- the k-th core has at most whole + 1 - k members
+    pub kth : Fits l → length ms + suc (length (l .cores)) ≤ suc whole
+    kth f = omega (arith, few, g .weighs, f .cores-fit)
+
+    pub fits-kept : Fits l → Fits (recorded l s ms)
+    fits-kept f = record {
+      cores-fit = omega (arith, f .cores-fit, length-append (l .cores) (ms ∷ []));
+      members-fit = omega (arith, f .members-fit, held-append (l .cores) ms, tri-room (length ms) (remaining l) (remaining (recorded l s ms)) few (omega (arith, falls)));
+      softs-fit =
+          omega (
+            arith,
+            f .softs-fit,
+            length-append (lose s ms (l .rests)) (replicate (fewer ms) s),
+            length-lose s ms (l .rests),
+            length-replicate (fewer ms) s,
+            low-room (fewer ms) (remaining l) (remaining (recorded l s ms)) (omega (arith, few, fewer-is ms (c .some))) (omega (arith, falls)),
+          );
+    }
+
+    -- A CORE OF A LEVEL OF WEIGHT 90 OR LESS PASSES NO LIMIT
+    pub has-room : Fits l → whole ≤ 90 → room l ms ≡ true
+    has-room f h =
+        let k = fits-kept f in
+        let a : length (l .kinds) + (length ms - 1) ≤ 4096 =
+        omega (
+          arith,
+          g .as-long,
+          k .softs-fit,
+          tri-mono h,
+          length-append (lose s ms (l .rests)) (replicate (fewer ms) s),
+          length-lose s ms (l .rests),
+          length-replicate (fewer ms) s,
+          fewer-is ms (c .some),
+        ) in
+        let b : held (l .cores) + length ms ≤ 4096 = omega (arith, k .members-fit, tri-mono h, held-append (l .cores) ms) in
+        rw (le-leb (length (l .kinds) + (length ms - 1)) 4096 a, le-leb (held (l .cores) + length ms) 4096 b)
+
+  -- the bound stays within the level's weight
+  pub lower-within : (l : Level) (s : ℕ) (ms : List ℕ) → Good P l → Core P l s ms → l .lower + s ≤ whole
+  lower-within l s ms g c = omega (arith, kept P l s ms g c .weighs)
+
+  -- a model that meets every soft literal with weight left costs the lower bound
+  pub met-costs-lower : (l : Level) → Good P l → (M : Set) → Model M
+      → ((p : ℕ) → p < length (l .rests) → 0 < getD (l .rests) p 0 → violated M (l .kinds) (l .cores) p ≡ false) → costOf M ≡ l .lower
+  met-costs-lower l g M h met = omega (arith, g .identity M h, wsum-none _ (l .rests) (λ p l w. ap ind (met p l w)))
+
+  -- and no model costs less
+  pub lower-bounds : (l : Level) → Good P l → (M : Set) → Model M → l .lower ≤ costOf M
+  lower-bounds l g M h = omega (arith, g .identity M h)
+
+  -- so it is a best model
+  pub best : (l : Level) → Good P l → (M : Set) → Model M
+      → ((p : ℕ) → p < length (l .rests) → 0 < getD (l .rests) p 0 → violated M (l .kinds) (l .cores) p ≡ false)
+      → (N : Set) → Model N → costOf M ≤ costOf N
+  best l g M h met N k = omega (arith, met-costs-lower l g M h met, lower-bounds l g N k)
+
+  -- ---- a run on the level: from l0 at stratum s0, cores recorded at the present stratum s, and falls of the stratum, never below 1; f falls and k cores
+
+  pub data Run (l0 : Level) (s0 : ℕ) : Level → ℕ → ℕ → ℕ → Type 0 where
+    begin : Run l0 s0 l0 s0 0 0
+    core : {l : Level} {s f k : ℕ} → Run l0 s0 l s f k → (ms : List ℕ) → Core P l s ms → Run l0 s0 (recorded l s ms) s f (suc k)
+    fall : {l : Level} {s f k : ℕ} → Run l0 s0 l s f k → 1 ≤ under s (l .rests) → Run l0 s0 l (under s (l .rests)) (suc f) k
+
+  pub record Sound (s0 : ℕ) (l : Level) (s f k : ℕ) : Type 0 where
+    pub good : Good P l
+    pub fits : Fits l
+    pub positive : 1 ≤ s
+    pub falls-few : f + s ≤ s0
+    pub cores-are : k ≡ length (l .cores)
+
+  module _ (l0 : Level) (s0 : ℕ) (g0 : Good P l0) (f0 : Fits l0) (none : l0 .cores ≡ []) (s1 : 1 ≤ s0) where
+    pub run-sound : {l : Level} {s f k : ℕ} → Run l0 s0 l s f k → Sound s0 l s f k
+    run-sound begin = record { good = g0; fits = f0; positive = s1; falls-few = omega arith; cores-are = sym (ap length none) }
+    run-sound (core {l = l} {s = s} r ms c) =
+        let z = run-sound r in
+        record {
+          good = kept P l s ms (z .good) c;
+          fits = fits-kept l s ms (z .good) c (z .positive) (z .fits);
+          positive = z .positive;
+          falls-few = z .falls-few;
+          cores-are = omega (arith, z .cores-are, length-append (l .cores) (ms ∷ []));
+        }
+    run-sound (fall {l = l} {s = s} r p) =
+        let z = run-sound r in
+        record { good = z .good; fits = z .fits; positive = p; falls-few = omega (arith, z .falls-few, under-lt s (l .rests) (z .positive)); cores-are = z .cores-are }
+
+    -- a level of at most 90: at most 4096 soft literals and 4096 core members, whatever cores are found
+    pub softs-at-most : {l : Level} {s f k : ℕ} → Run l0 s0 l s f k → whole ≤ 90 → length (l .kinds) ≤ 4096
+    softs-at-most r h = omega (arith, run-sound r .good .as-long, run-sound r .fits .softs-fit, tri-mono h)
+
+    pub members-at-most : {l : Level} {s f k : ℕ} → Run l0 s0 l s f k → whole ≤ 90 → held (l .cores) ≤ 4096
+    members-at-most r h = omega (arith, run-sound r .fits .members-fit, tri-mono h)
+
+    -- the queries: k cores and f falls so far
+    pub cores-at-most : {l : Level} {s f k : ℕ} → Run l0 s0 l s f k → k ≤ l .lower
+    cores-at-most r = omega (arith, run-sound r .fits .cores-fit, run-sound r .cores-are)
+
+    pub falls-at-most : {l : Level} {s f k : ℕ} → Run l0 s0 l s f k → f ≤ s0 - s
+    falls-at-most r = omega (arith, run-sound r .falls-few)
+
+    -- so at most whole cores, and with the falls fewer than whole + s0 queries are answered by a core or followed by a fall
+    pub queries-at-most : {l : Level} {s f k : ℕ} → Run l0 s0 l s f k → k + f < whole + s0
+    queries-at-most r = omega (arith, cores-at-most r, run-sound r .falls-few, run-sound r .positive, run-sound r .good .weighs)

@@ -1,0 +1,40 @@
+-- Sums over lists by position, members of a list, and what a list loses at some positions. Assumes nothing: these are definitions.
+use mathlib.Core.Logic.{_≢_}
+use mathlib.Core.Bool.{Bool, true, false}
+use mathlib.Core.List.{List, [], _∷_}
+use Prim.Native.Nat.{ℕ, suc, _+_, _-_, _*_, _≤_, _<_}
+use lib.ListN.{length, getD, set}
+
+-- 1 for what is so
+abbrev pub ind : Bool → ℕ
+ind true = 1
+ind false = 0
+
+-- Σ over the positions p of (weight at p) * (f p)
+abbrev pub wsum : (ℕ → ℕ) → List ℕ → ℕ
+wsum f [] = 0
+wsum f (w ∷ ws) = w * f 0 + wsum (λ p. f (suc p)) ws
+
+-- Σ over the members m of f m
+abbrev pub count : (ℕ → ℕ) → List ℕ → ℕ
+count f [] = 0
+count f (m ∷ ms) = f m + count f ms
+
+-- m is none of the members
+abbrev pub Out : ℕ → List ℕ → Type 0
+Out m [] = Unit {0}
+Out m (x ∷ xs) = (m ≢ x) × Out m xs
+
+-- none twice
+abbrev pub Distinct : List ℕ → Type 0
+Distinct [] = Unit {0}
+Distinct (m ∷ ms) = Out m ms × Distinct ms
+
+-- at m there is a weight, of s at least
+abbrev pub Holds : ℕ → List ℕ → ℕ → Type 0
+Holds s ws m = (m < length ws) × (s ≤ getD ws m 0)
+
+-- "each member loses" s
+abbrev pub lose : ℕ → List ℕ → List ℕ → List ℕ
+lose s [] ws = ws
+lose s (m ∷ ms) ws = lose s ms (set ws m (getD ws m 0 - s))

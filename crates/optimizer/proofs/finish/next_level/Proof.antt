@@ -1,0 +1,53 @@
+-- `optimizer::finish::next_level` meets its contract. The invariant is `Seeking` of Finishing.
+-- Assumes nothing.
+use borrow.Author.Needs.{needs}
+use Prim.Native.Nat.{_-_}
+use native.Mathlib.Omega.{arith}
+use Rattle.optimizer.proofs.Finishing.{Seeking, seek-start, seek-next, seek-found, seek-end}
+use Rattle.optimizer.proofs.finish.next_level.Statement.{statement}
+use Rattle.optimizer.proofs.finish.next_level.Tie as tie
+
+abbrev Inv-loop : tie.InvT-loop
+Inv-loop j k uppers i₀ i = Seeking uppers j k i
+
+abbrev μ-loop : tie.MeasureT-loop
+μ-loop j k uppers i₀ i = k - i
+
+loop-holds : tie.Need-loop-holds Inv-loop μ-loop
+loop-holds c = search (seek-start, needs)
+
+mul-if1 : tie.Need-mul-if1 Inv-loop μ-loop
+mul-if1 c = search needs
+
+array-read-if1 : tie.Need-array-read-if1 Inv-loop μ-loop
+array-read-if1 c = omega arith
+
+returns : tie.Need-returns Inv-loop μ-loop
+returns c = (search (seek-found, needs), search needs)
+
+add-i : tie.Need-add-i Inv-loop μ-loop
+add-i c = omega arith
+
+loop-less : tie.Need-loop-less Inv-loop μ-loop
+loop-less c = omega arith
+
+loop-again : tie.Need-loop-again Inv-loop μ-loop
+loop-again c = search (seek-next, needs)
+
+returns-2 : tie.Need-returns-2 Inv-loop μ-loop
+returns-2 c = (search (seek-end, needs), search needs)
+
+pub next-level-spec : {M : Type 1} → statement M
+next-level-spec =
+    tie.close
+    (tie.spec
+    Inv-loop
+    μ-loop
+    loop-holds
+    mul-if1
+    array-read-if1
+    returns
+    add-i
+    loop-less
+    loop-again
+    returns-2)

@@ -1,0 +1,28 @@
+-- `optimizer::finish::open_at` meets its contract.
+-- Assumes nothing.
+use mir.Syntax.{w32}
+use mir.Val.{SFits}
+use Rattle.optimizer.proofs.Finishing.{begun-formed, begun-is, none-left}
+use borrow.Author.Needs.{needs}
+use Rattle.optimizer.proofs.finish.open_at.Statement.{statement}
+use Rattle.optimizer.proofs.finish.open_at.Tie as tie
+
+literal-at-requires : tie.Need-literal-at-requires
+literal-at-requires c κs = search needs
+
+opened-requires : tie.Need-opened-requires
+opened-requires c κs = search needs
+
+next-stratum-requires : tie.Need-next-stratum-requires
+next-stratum-requires c κs = let f : SFits w32 (c .before .literal-at .result) = record { sfits = c .before .literal-at .ok } in search (begun-formed, f, needs)
+
+returns : tie.Need-returns
+returns c = let f : SFits w32 (c .before .before .literal-at .result) = record { sfits = c .before .before .literal-at .ok } in search (begun-is, f, needs)
+
+returns-2 : tie.Need-returns-2
+returns-2 c = search (none-left, needs)
+
+pub open-at-spec : {M : Type 1} → statement M
+open-at-spec =
+    tie.close
+    (tie.spec literal-at-requires opened-requires next-stratum-requires returns returns-2)

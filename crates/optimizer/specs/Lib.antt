@@ -1,0 +1,5 @@
+pub mod Optimize
+pub mod Source
+pub mod Turn
+pub mod Finish
+pub mod Ready

@@ -1,0 +1,64 @@
+-- The tables of a program that an optimization reads, and what they say. Assumes nothing: these are definitions.
+use mathlib.Core.List.{List}
+use Prim.Native.Nat.{ℕ, _≤_}
+use lib.IntN.{ℤ, pos}
+use lib.ListN.{length, getD}
+use Rattle.asp.specs.Program.{Rule, Entry, All, LiteralIn}
+use Rattle.asp.specs.Cost.{level}
+use Rattle.asp.specs.Tables.{span, rulesOf, entriesOf, Formed}
+use Rattle.asp.specs.Paying.{EntriesFormed}
+use Rattle.search.specs.Scan.{Rules, rules}
+
+-- the priorities of the levels, highest first, and the entries
+pub record Levels : Type 0 where
+  pub levels : List ℤ
+  pub priorities : List ℤ
+  pub literals : List ℤ
+  pub weights : List ℕ
+  pub entrycount : ℕ
+
+abbrev pub levelTables : List ℤ → List ℤ → List ℤ → List ℕ → ℕ → Levels
+levelTables levels priorities literals weights entrycount = record { levels = levels; priorities = priorities; literals = literals; weights = weights; entrycount = entrycount }
+
+abbrev pub entriesIn : Levels → List Entry
+entriesIn L = entriesOf (L .priorities) (L .literals) (L .weights) (L .entrycount)
+
+-- how many levels
+abbrev pub many : Levels → ℕ
+many L = length (L .levels)
+
+-- the level at place j, from 0, the highest
+abbrev pub levelAt : Levels → ℕ → List Entry
+levelAt L j = level (getD (L .levels) j (pos 0)) (entriesIn L)
+
+abbrev pub levelsIn : Levels → List (List Entry)
+levelsIn L = span (levelAt L) 0 (many L)
+
+-- atoms 1 to n, the rules, the levels
+pub record Source : Type 0 where
+  pub n : ℕ
+  pub pool : List ℤ
+  pub rows : List ℕ
+  pub rulecount : ℕ
+  pub levels : Levels
+
+abbrev pub source : ℕ → List ℤ → List ℕ → ℕ → Levels → Source
+source n pool rows rulecount levels = record { n = n; pool = pool; rows = rows; rulecount = rulecount; levels = levels }
+
+abbrev pub rulesIn : Source → List Rule
+rulesIn S = rulesOf (S .pool) (S .rows) (S .rulecount)
+
+abbrev pub ruleTables : Source → Rules
+ruleTables S = rules (S .pool) (S .rows) (S .rulecount)
+
+-- the tables are well formed: asp's conditions, and document 01's limits as far as the code needs them
+pub record FormedLevels (L : Levels) : Type 0 where
+  pub entries : EntriesFormed (L .priorities) (L .literals) (L .weights) (L .entrycount)
+  pub few : L .entrycount ≤ 512
+  pub levels-few : many L ≤ 8
+  pub light : All (λ (e : Entry). e .weight ≤ 1000000) (entriesIn L)
+
+pub record FormedSource (S : Source) : Type 0 where
+  pub rules : Formed (S .n) (S .pool) (S .rows) (S .rulecount)
+  pub levels : FormedLevels (S .levels)
+  pub atoms : All (λ (e : Entry). LiteralIn (S .n) (e .literal)) (entriesIn (S .levels))
