@@ -29,10 +29,11 @@ use Rattle.cores.proofs.Kept.{level-formed, opened-means, opened-sound, first-s
 use Rattle.cores.proofs.Queries.{Falling, fall-start, fall-next, fall-end, raised-yes, raised-kept, raised-no}
 use Rattle.optimizer.specs.Source.{Levels, many, entriesIn, levelAt, FormedLevels}
 use Rattle.optimizer.specs.declared.state.Work.{Work}
+use Rattle.optimizer.specs.declared.state.Phase.{Phase}
 use Rattle.optimizer.specs.declared.state.Phase.the-variants.{First, Level, Optimum, Incoherent, Full}
 use Rattle.optimizer.specs.declared.state.Turn.{Turn}
 use Rattle.optimizer.specs.declared.state.Turn.the-variants.{Going, Without, Model}
-use Rattle.optimizer.specs.Finish.{nextFrom, work, Placed, placed, begunAt, openAt, openFrom, settleOf, costsOf, withBest, betterOf, fallen, withTables, triedWork, finishFirst, finishLevel}
+use Rattle.optimizer.specs.Finish.{nextFrom, work, Placed, placed, begunAt, openAt, openFrom, settleOf, costsOf, withBest, betterOf, fallen, withTables, triedWork, finishFirst, finishLevel, finishOf}
 
 -- ---- the next level that is not settled at 0
 
@@ -211,3 +212,20 @@ better-tables L w v f e = subst (λ (b : Work). FormedTables (b .tables)) (sym e
 
 pub better-level : (L : Levels) (w : Work) (v : List ℕ) {n : ℕ} → w .level < n → {b : Work} → b ≡ betterOf L w v → {u : Work} → u ≡ fallen b → u .level < n
 better-level L w v {n} h e q = subst (λ (u : Work). u .level < n) (sym (q ∙ ap fallen e)) (better-keeps (λ b. b .level < n) L w v h h)
+
+-- the end of any query, by the phase
+module _ (L : Levels) (w : Work) (v ms : List ℕ) (x : Turn) {p : Phase} where
+  pub phase-first : p ≡ First → {r : Placed} → r ≡ finishFirst L w v x → r ≡ finishOf L p w v ms x
+  phase-first e g = g ∙ ap (λ (y : Phase). finishOf L y w v ms x) (sym e)
+
+  pub phase-level : p ≡ Level → {r : Placed} → r ≡ finishLevel L w v ms x → r ≡ finishOf L p w v ms x
+  phase-level e g = g ∙ ap (λ (y : Phase). finishOf L y w v ms x) (sym e)
+
+  pub phase-optimum : p ≡ Optimum → placed Optimum w ≡ finishOf L p w v ms x
+  phase-optimum e = ap (λ (y : Phase). finishOf L y w v ms x) (sym e)
+
+  pub phase-incoherent : p ≡ Incoherent → placed Incoherent w ≡ finishOf L p w v ms x
+  phase-incoherent e = ap (λ (y : Phase). finishOf L y w v ms x) (sym e)
+
+  pub phase-full : p ≡ Full → placed Full w ≡ finishOf L p w v ms x
+  phase-full e = ap (λ (y : Phase). finishOf L y w v ms x) (sym e)

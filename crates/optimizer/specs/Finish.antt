@@ -135,8 +135,12 @@ search p c t b w = record { phase = p; advances = c; trail = t; blame = b; work 
 abbrev pub ended : ℕ → Placed → Search
 ended c x = search (x .phase) c freshTrail freshBlame (x .work)
 
+-- the state after steps of a query that came to x, c advances made
+abbrev pub afterTurns : Levels → Phase → ℕ → Work → Turned → Search
+afterTurns L p c w x = pick (isGoing (x .turn)) (search p c (trail (x .trail)) (x .blame) w) (ended c (finishOf L p w (x .trail .value) (blamedOf (x .blame)) (x .turn)))
+
 abbrev pub finishTurn : Source → Phase → ℕ → Work → Turned → Search
-finishTurn S p c w x = pick (isGoing (x .turn)) (search p c (trail (x .trail)) (x .blame) w) (ended c (finishOf (S .levels) p w (x .trail .value) (blamedOf (x .blame)) (x .turn)))
+finishTurn S p c w x = afterTurns (S .levels) p c w x
 
 abbrev pub workQuery : Work → Query
 workQuery w = queryOf (w .level) (w .lowers) (w .tables) (w .stratum)

@@ -3,3 +3,4 @@ pub mod Source
 pub mod Turn
 pub mod Finish
 pub mod Ready
+pub mod Run

@@ -13,6 +13,8 @@ use Rattle.search.specs.Places.{Places, Sound}
 use Rattle.cores.specs.Sums.{Distinct}
 use Rattle.cores.specs.Judging.{Formed}
 use Rattle.cores.specs.Tables.{FormedTables, Counted}
+use Rattle.cores.specs.Tables as tables
+use Rattle.cores.specs.declared.level.LevelTables.{LevelTables}
 use Rattle.optimizer.specs.declared.state.Blame.{Blame}
 use Rattle.optimizer.specs.declared.state.Work.{Work}
 use Rattle.optimizer.specs.declared.state.Search.{Search}
@@ -68,6 +70,10 @@ pub record ReadySearch (S : Source) (s : Search) : Type 0 where
   pub query : ReadyQuery S (workQuery (s .work))
   pub blame : GoodBlame (workQuery (s .work)) (s .blame)
   pub trail : Sound (S .n) (placesOf (s .trail))
+
+-- the level's tables are in shape, and the core number falls
+abbrev pub SoundTables : LevelTables → Type 0
+SoundTables t = tables.Sound t
 
 -- a core can be recorded: its places are in the table, none of it is lighter than the stratum, and the bound stays in range
 pub record ReadyCore (w : Work) (ms : List ℕ) : Type 0 where

@@ -66,6 +66,12 @@ wishedIn t s = map (λ (p : ℕ). negℤ (getD (judgingOf t .literals) p (pos 0)
 unfoldable pub queryOf : ℕ → List ℕ → LevelTables → ℕ → Query
 queryOf level lowers t s = query level lowers (wishedIn t s) (entryPlaces t s) (assumedIn t s) (judgingOf t)
 
+-- the same from the columns of the tables: j, and the remaining weights
+abbrev pub queryBy : ℕ → List ℕ → Judging → List ℕ → ℕ → Query
+queryBy level lowers j rests s =
+    query level lowers (map (λ (p : ℕ). negℤ (getD (j .literals) p (pos 0))) (entriesAmong (j .cores) (assumedFrom s 0 rests)))
+    (entriesAmong (j .cores) (assumedFrom s 0 rests)) (assumedFrom s 0 rests) j
+
 -- ---- what is blamed
 
 abbrev pub blamedOf : Blame → List ℕ

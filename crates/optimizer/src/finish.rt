@@ -354,3 +354,56 @@ fn finish_level<'a>(
         }
     }
 }
+
+// The end of any query: w is what stands still, value the trail's set, core what is blamed.
+pub fn finish<'a>(
+    levels: &'a [i32],
+    priorities: &'a [i32],
+    literals: &'a [i32],
+    weights: &'a [u32],
+    entrycount: usize,
+    phase: Phase,
+    w: Work,
+    value: [u8; 1025],
+    core: &'a [u16],
+    turn: Turn,
+) -> Placement
+    requires { ⌜ FormedLevels (levelTables (now levels) (now priorities) (now literals) (now weights) entrycount) × FormedTables (w .tables) × (phase ≡ Phase.Level → w .level < length (now levels)) × (phase ≡ Phase.Level → turn ≡ Turn.Without → ReadyCore w (now core)) ⌝ }
+    ensures { λ r. ⌜ placed (r .phase) (r .work) ≡ finishOf (levelTables (now (levels .entry)) (now (priorities .entry)) (now (literals .entry)) (now (weights .entry)) entrycount) phase w value (now (core .entry)) turn ⌝ }
+{
+    match phase {
+        Phase::First => finish_first(
+            levels,
+            priorities,
+            literals,
+            weights,
+            entrycount,
+            w,
+            value,
+            turn,
+        ),
+        Phase::Level => finish_level(
+            levels,
+            priorities,
+            literals,
+            weights,
+            entrycount,
+            w,
+            value,
+            core,
+            turn,
+        ),
+        Phase::Optimum => Placement {
+            phase: Phase::Optimum,
+            work: w,
+        },
+        Phase::Incoherent => Placement {
+            phase: Phase::Incoherent,
+            work: w,
+        },
+        Phase::Full => Placement {
+            phase: Phase::Full,
+            work: w,
+        },
+    }
+}

@@ -2,5 +2,7 @@
 pub mod blame;
 pub mod finish;
 pub mod judge;
+pub mod query;
+pub mod run;
 pub mod state;
 pub mod turn;

@@ -1,0 +1,21 @@
+-- `optimizer::run::fresh` meets its contract.
+-- Assumes nothing.
+use Rattle.optimizer.proofs.Running.{fresh-is}
+use borrow.Author.Needs.{needs}
+use Rattle.optimizer.proofs.run.fresh.Statement.{statement}
+use Rattle.optimizer.proofs.run.fresh.Tie as tie
+
+fresh-trail-requires : tie.Need-fresh-trail-requires
+fresh-trail-requires c κs = search needs
+
+fresh-blame-requires : tie.Need-fresh-blame-requires
+fresh-blame-requires c κs = search needs
+
+empty-requires : tie.Need-empty-requires
+empty-requires c κs = search needs
+
+returns : tie.Need-returns
+returns c = search (fresh-is, needs)
+
+pub fresh-spec : {M : Type 1} → statement M
+fresh-spec = tie.close (tie.spec fresh-trail-requires fresh-blame-requires empty-requires returns)

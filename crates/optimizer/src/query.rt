@@ -1,0 +1,230 @@
+// Steps of one query: the level's tables are unpacked into columns once, and lent to every step.
+use crate::state::Blame;
+use crate::state::Trail;
+use crate::state::Turn;
+use crate::state::Work;
+use crate::turn;
+use cores::query;
+use cores::recording;
+ghost use mathlib.Core.Path.{_≡_};
+ghost use Prim.Native.Nat.{ℕ, _≤_, _<_};
+ghost use lib.ListN.{length};
+ghost use Rattle.search.specs.Places.{Sound};
+ghost use Rattle.cores.specs.Judging.{judging};
+ghost use Rattle.optimizer.specs.Source.{levelTables, source};
+ghost use Rattle.optimizer.specs.Turn.{query, queryBy, turned, turns, turnsOf};
+ghost use Rattle.optimizer.specs.Finish.{placesOf, workQuery};
+ghost use Rattle.optimizer.specs.Ready.{ReadyQuery, GoodBlame, SoundTables};
+
+// What some steps came to, the trail and the blame after them, and how many they were.
+pub struct Ran {
+    pub turn: Turn,
+    pub trail: Trail,
+    pub blame: Blame,
+    pub made: u32,
+}
+
+// Steps of a query whose tables are lent.
+fn run_lent<'a>(
+    n: usize,
+    pool: &'a [i32],
+    rows: &'a [u16],
+    rulecount: usize,
+    levels: &'a [i32],
+    priorities: &'a [i32],
+    literals: &'a [i32],
+    weights: &'a [u32],
+    entrycount: usize,
+    level: usize,
+    lowers: &'a [u64; 8],
+    wished: &'a [i32],
+    spots: &'a [u16],
+    assumed: &'a [u16],
+    softs: &'a [i32],
+    cores: &'a [u16],
+    indices: &'a [u16],
+    ends: &'a [u16],
+    members: &'a [u16],
+    trail: Trail,
+    blame: Blame,
+    budget: u32,
+) -> Ran
+    requires { ⌜ ReadyQuery (source n (now pool) (now rows) rulecount (levelTables (now levels) (now priorities) (now literals) (now weights) entrycount)) (query level (now lowers) (now wished) (now spots) (now assumed) (judging (now softs) (now cores) (now indices) (now ends) (now members))) ⌝ }
+    requires { ⌜ GoodBlame (query level (now lowers) (now wished) (now spots) (now assumed) (judging (now softs) (now cores) (now indices) (now ends) (now members))) blame ⌝ }
+    requires { ⌜ Sound n (placesOf trail) ⌝ }
+    ensures { λ r. ⌜ turns (turned (r .turn) (placesOf (r .trail)) (r .blame)) (r .made) ≡ turnsOf (source n (now (pool .entry)) (now (rows .entry)) rulecount (levelTables (now (levels .entry)) (now (priorities .entry)) (now (literals .entry)) (now (weights .entry)) entrycount)) (query level (now (lowers .entry)) (now (wished .entry)) (now (spots .entry)) (now (assumed .entry)) (judging (now (softs .entry)) (now (cores .entry)) (now (indices .entry)) (now (ends .entry)) (now (members .entry)))) budget (placesOf trail) blame ⌝ }
+{
+    let mut lits = trail.lits;
+    let mut marks = trail.marks;
+    let mut value = trail.value;
+    let mut flags = blame.flags;
+    let mut core = blame.core;
+    let r = turn::turns(
+        n,
+        pool,
+        rows,
+        rulecount,
+        levels,
+        priorities,
+        literals,
+        weights,
+        entrycount,
+        level,
+        lowers,
+        wished,
+        spots,
+        assumed,
+        softs,
+        cores,
+        indices,
+        ends,
+        members,
+        &mut lits,
+        &mut marks,
+        &mut value,
+        &mut flags,
+        &mut core,
+        trail.len,
+        blame.from,
+        budget,
+    );
+    let made = r.made;
+    let t = r.turning;
+    let turn = t.turn;
+    Ran {
+        turn: turn,
+        trail: Trail {
+            lits: lits,
+            marks: marks,
+            value: value,
+            len: t.len,
+        },
+        blame: Blame {
+            flags: flags,
+            core: core,
+            from: t.from,
+        },
+        made: made,
+    }
+}
+
+// Steps by the columns of the level in work.
+fn run_columns<'a>(
+    n: usize,
+    pool: &'a [i32],
+    rows: &'a [u16],
+    rulecount: usize,
+    levels: &'a [i32],
+    priorities: &'a [i32],
+    literals: &'a [i32],
+    weights: &'a [u32],
+    entrycount: usize,
+    level: usize,
+    lowers: &'a [u64; 8],
+    stratum: u32,
+    softs: &'a [i32],
+    cores: &'a [u16],
+    indices: &'a [u16],
+    rests: &'a [u32],
+    ends: &'a [u16],
+    members: &'a [u16],
+    trail: Trail,
+    blame: Blame,
+    budget: u32,
+) -> Ran
+    requires { ⌜ ReadyQuery (source n (now pool) (now rows) rulecount (levelTables (now levels) (now priorities) (now literals) (now weights) entrycount)) (queryBy level (now lowers) (judging (now softs) (now cores) (now indices) (now ends) (now members)) (now rests) stratum) ⌝ }
+    requires { ⌜ GoodBlame (queryBy level (now lowers) (judging (now softs) (now cores) (now indices) (now ends) (now members)) (now rests) stratum) blame ⌝ }
+    requires { ⌜ Sound n (placesOf trail) ⌝ }
+    requires { ⌜ (length (now rests) ≤ 4096) × (length (now cores) ≡ length (now softs)) ⌝ }
+    ensures { λ r. ⌜ turns (turned (r .turn) (placesOf (r .trail)) (r .blame)) (r .made) ≡ turnsOf (source n (now (pool .entry)) (now (rows .entry)) rulecount (levelTables (now (levels .entry)) (now (priorities .entry)) (now (literals .entry)) (now (weights .entry)) entrycount)) (queryBy level (now (lowers .entry)) (judging (now (softs .entry)) (now (cores .entry)) (now (indices .entry)) (now (ends .entry)) (now (members .entry))) (now (rests .entry)) stratum) budget (placesOf trail) blame ⌝ }
+{
+    let mut assumed = [0u16; 4096];
+    let mut spots = [0u16; 4096];
+    let mut wished = [0i32; 4096];
+    let m = query::assumed(rests, stratum, &mut assumed);
+    let k = query::entries(&assumed[..m], cores, softs, &mut spots, &mut wished);
+    run_lent(
+        n,
+        pool,
+        rows,
+        rulecount,
+        levels,
+        priorities,
+        literals,
+        weights,
+        entrycount,
+        level,
+        lowers,
+        &wished[..k],
+        &spots[..k],
+        &assumed[..m],
+        softs,
+        cores,
+        indices,
+        ends,
+        members,
+        trail,
+        blame,
+        budget,
+    )
+}
+
+// Steps of the query that stands at the level, with its tables and its stratum.
+pub fn run_query<'a>(
+    n: usize,
+    pool: &'a [i32],
+    rows: &'a [u16],
+    rulecount: usize,
+    levels: &'a [i32],
+    priorities: &'a [i32],
+    literals: &'a [i32],
+    weights: &'a [u32],
+    entrycount: usize,
+    w: Work,
+    trail: Trail,
+    blame: Blame,
+    budget: u32,
+) -> Ran
+    requires { ⌜ ReadyQuery (source n (now pool) (now rows) rulecount (levelTables (now levels) (now priorities) (now literals) (now weights) entrycount)) (workQuery w) ⌝ }
+    requires { ⌜ GoodBlame (workQuery w) blame ⌝ }
+    requires { ⌜ Sound n (placesOf trail) ⌝ }
+    requires { ⌜ SoundTables (w .tables) ⌝ }
+    ensures { λ r. ⌜ turns (turned (r .turn) (placesOf (r .trail)) (r .blame)) (r .made) ≡ turnsOf (source n (now (pool .entry)) (now (rows .entry)) rulecount (levelTables (now (levels .entry)) (now (priorities .entry)) (now (literals .entry)) (now (weights .entry)) entrycount)) (workQuery w) budget (placesOf trail) blame ⌝ }
+{
+    let mut softs = [0i32; 4096];
+    let mut cores = [0u16; 4096];
+    let mut indices = [0u16; 4096];
+    let mut rests = [0u32; 4096];
+    let t = w.tables;
+    let count = t.count;
+    let all = t.softs;
+    query::unpack(all, count, &mut softs, &mut cores, &mut indices, &mut rests);
+    let lowers = w.lowers;
+    let ends = t.ends;
+    let members = t.members;
+    let k = t.cores;
+    let held = recording::held(ends, k);
+    run_columns(
+        n,
+        pool,
+        rows,
+        rulecount,
+        levels,
+        priorities,
+        literals,
+        weights,
+        entrycount,
+        w.level,
+        &lowers,
+        w.stratum,
+        &softs[..count],
+        &cores[..count],
+        &indices[..count],
+        &rests[..count],
+        &ends[..k + 1],
+        &members[..held],
+        trail,
+        blame,
+        budget,
+    )
+}
