@@ -9,3 +9,4 @@ pub mod Finishing
 pub mod Fronts
 pub mod Running
 pub mod Advancing
+pub mod Fresh
