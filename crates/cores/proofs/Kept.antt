@@ -37,13 +37,13 @@ use Rattle.cores.proofs.Links.{kinds-count, rests-count, cores-count, f
 
 -- ---- entries
 
-weighty-all : (P : Entry → Type 0) (es : List Entry) → All P es → All P (weighty es)
+pub weighty-all : (P : Entry → Type 0) (es : List Entry) → All P es → All P (weighty es)
 unfolding weighty
 weighty-all P [] a = tt
 weighty-all P (e ∷ es) a =
     elim (ltb 0 (e .weight)) as (λ b. All P (pick b (e ∷ weighty es) (weighty es))) [ true ↦ (a .0, weighty-all P es (a .1)) | false ↦ weighty-all P es (a .1) ]
 
-level-all : (P : Entry → Type 0) (q : ℤ) (es : List Entry) → All P es → All P (level q es)
+pub level-all : (P : Entry → Type 0) (q : ℤ) (es : List Entry) → All P es → All P (level q es)
 unfolding level
 level-all P q [] a = tt
 level-all P q (e ∷ es) a =

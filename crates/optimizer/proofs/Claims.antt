@@ -207,7 +207,7 @@ settle-best c w =
 none-best : (c : ℕ) (w : Work) (ms : List ℕ) → bestOf (noModel c w ms) ≡ some (w .best)
 none-best c w ms = elim (room (w .tables) ms) as (λ b. bestOf (pick b (settle c (withCore w ms)) (full c w)) ≡ some (w .best)) [ true ↦ settle-best c (withCore w ms) | false ↦ refl ]
 
-work-falls : (levels : List (List Entry)) (c : ℕ) (w : Work) (s : machine.State) → Falls levels (some (w .best)) (bestOf (afterWork levels c w s))
+pub work-falls : (levels : List (List Entry)) (c : ℕ) (w : Work) (s : machine.State) → Falls levels (some (w .best)) (bestOf (afterWork levels c w s))
 work-falls levels c w (machine.running t ms) = no-dearer-refl ltb ltb-linear (costsOn (w .best) levels)
 work-falls levels c w (machine.without ms) = subst (Falls levels (some (w .best))) (sym (none-best c w ms)) (no-dearer-refl ltb ltb-linear (costsOn (w .best) levels))
 work-falls levels c w (machine.model M) = subst (Falls levels (some (w .best))) (sym (settle-best c (withModel levels w M))) (better-le levels M (w .best) .1)

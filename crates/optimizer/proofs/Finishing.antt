@@ -119,7 +119,7 @@ fallen-is w e = ap (λ (s : ℕ). work (w .level) (w .tables) s (w .lowers) (w .
 
 -- ---- a level is opened. Its priority, which goes from one call to the next, stands as `toZ w32 (ofZ w32 p)`.
 
-formed-in : (L : Levels) → FormedLevels L → FormedEntries (entriesIn L)
+pub formed-in : (L : Levels) → FormedLevels L → FormedEntries (entriesIn L)
 formed-in L f = record {
   few = omega (arith, f .few, length-span (entryAt (L .priorities) (L .literals) (L .weights)) 0 (L .entrycount));
   atoms = all-map (λ (e : Entry). LiteralIn 1024 (e .literal)) (λ (e : Entry). natAbs (e .literal) ≤ 1024) (λ e h. h .1) (entriesIn L) (f .entries .atoms);

@@ -20,7 +20,7 @@ use Rattle.optimizer.specs.Finish.{workQuery, freshWork, freshBlame, fre
 use Rattle.optimizer.specs.Ready.{softs, ReadyQuery, GoodBlame}
 use Rattle.optimizer.specs.Run.{ReadyRun}
 
-drop-all : (n : ℕ) → drop {A = ℕ} n (replicate n 0) ≡ []
+pub drop-all : (n : ℕ) → drop {A = ℕ} n (replicate n 0) ≡ []
 drop-all zero = refl
 drop-all (suc n) = drop-all n
 
@@ -55,7 +55,7 @@ module _ (S : Source) (f : FormedSource S) where
     flags = λ i h. absurd (omega arith);
   }
 
-  fresh-trail : Sound (S .n) (placesOf freshTrail)
+  pub fresh-trail : Sound (S .n) (placesOf freshTrail)
   unfolding freshPlaces
   fresh-trail = fresh-sound (S .n)
 

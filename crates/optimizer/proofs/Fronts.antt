@@ -19,7 +19,7 @@ use Rattle.cores.proofs.Unpacked.{cutJudging, cut-is}
 use Rattle.cores.proofs.Kept.{assumed-front, entries-front, wishes-front}
 use Rattle.optimizer.specs.Turn.{Query, query, queryBy, queryOf}
 
-keep-length : {A : Type 0} (f : A → Bool) (xs : List A) → length (keep f xs) ≤ length xs
+pub keep-length : {A : Type 0} (f : A → Bool) (xs : List A) → length (keep f xs) ≤ length xs
 unfolding keep
 keep-length f [] = omega arith
 keep-length {A} f (x ∷ xs) = go (f x) (keep-length f xs)

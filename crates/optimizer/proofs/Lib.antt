@@ -10,3 +10,8 @@ pub mod Fronts
 pub mod Running
 pub mod Advancing
 pub mod Fresh
+pub mod Verdicts
+pub mod Classes
+pub mod Meanings
+pub mod Validity
+pub mod Reached

@@ -84,7 +84,7 @@ module _ {S : Source} {q : Query} {b : Blame} (r : ReadyQuery S q) (g : GoodBlam
 
 -- ---- a new place in front
 
-drop-front : (core : List ℕ) (from p : ℕ) → 1 ≤ from → from ≤ length core → drop (from - 1) (set core (from - 1) p) ≡ p ∷ drop from core
+pub drop-front : (core : List ℕ) (from p : ℕ) → 1 ≤ from → from ≤ length core → drop (from - 1) (set core (from - 1) p) ≡ p ∷ drop from core
 drop-front core from p h l =
     let e : from ≡ suc (from - 1) = omega arith in
     drop-cons (set core (from - 1) p) (from - 1) 0 (rw length-set (omega arith))

@@ -4,3 +4,4 @@ pub mod Turn
 pub mod Finish
 pub mod Ready
 pub mod Run
+pub mod Facts

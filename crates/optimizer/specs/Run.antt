@@ -11,7 +11,7 @@ use Rattle.optimizer.specs.declared.state.Search.{Search}
 use Rattle.optimizer.specs.declared.state.Turn.the-variants.{Without}
 use Rattle.optimizer.specs.Source.{Source, many, FormedSource}
 use Rattle.optimizer.specs.Turn.{blamedOf, Turns, turnsOf}
-use Rattle.optimizer.specs.Finish.{placesOf, workQuery, finishTurn, advancesOf, madeBy}
+use Rattle.optimizer.specs.Finish.{placesOf, workQuery, finishTurn, freshSearch, advancesOf, madeBy}
 use Rattle.optimizer.specs.Ready.{ReadyQuery, GoodBlame, ReadyCore, SoundTables}
 
 -- "the figure stays at 2^64 - 1": k advances more
@@ -49,6 +49,12 @@ pub record ReadyRun (S : Source) (k : ℕ) (s : Search) : Type 0 where
 -- the same at every state that advances lead to
 abbrev pub Steady : Source → Search → Type 0
 Steady S s = (j k : ℕ) → ReadyRun S k (advancesOf S j s)
+
+-- a state that advances from a fresh one lead to, over tables that are in shape: all that a caller has to know
+pub record Reached (S : Source) (s : Search) : Type 0 where
+  pub source : FormedSource S
+  pub made : ℕ
+  pub is : s ≡ advancesOf S made freshSearch
 
 -- "until the status is not running or the count equals the budget": the state, and the number of advances made
 abbrev pub runOf : Source → ℕ → Search → Advances

@@ -17,7 +17,7 @@ ghost use Rattle.optimizer.specs.Source.{levelTables, source, FormedLeve
 ghost use Rattle.optimizer.specs.Turn.{turned, blamedOf};
 ghost use Rattle.optimizer.specs.Finish.{placesOf, freshTrail, freshBlame, ended, finishOf, afterTurns, isRunning, advanceOf, freshSearch};
 ghost use Rattle.optimizer.specs.Ready.{ReadyCore};
-ghost use Rattle.optimizer.specs.Run.{bumpedBy, advances, queryRun, ReadyRun, Steady, runOf};
+ghost use Rattle.optimizer.specs.Run.{bumpedBy, advances, queryRun, ReadyRun, Reached, runOf};
 
 // "the figure stays at 2^64 - 1"
 fn counted(c: u64, made: u32) -> u64
@@ -236,7 +236,7 @@ pub fn run<'a>(
     start: Search,
     budget: u32,
 ) -> Advanced
-    requires { ⌜ Steady (source n (now pool) (now rows) rulecount (levelTables (now levels) (now priorities) (now literals) (now weights) entrycount)) start ⌝ }
+    requires { ⌜ Reached (source n (now pool) (now rows) rulecount (levelTables (now levels) (now priorities) (now literals) (now weights) entrycount)) start ⌝ }
     ensures { λ r. ⌜ advances (r .search) (r .made) ≡ runOf (source n (now (pool .entry)) (now (rows .entry)) rulecount (levelTables (now (levels .entry)) (now (priorities .entry)) (now (literals .entry)) (now (weights .entry)) entrycount)) budget start ⌝ }
 {
     let mut s = start;
@@ -284,7 +284,7 @@ pub fn advance<'a>(
     entrycount: usize,
     s: Search,
 ) -> Search
-    requires { ⌜ ReadyRun (source n (now pool) (now rows) rulecount (levelTables (now levels) (now priorities) (now literals) (now weights) entrycount)) 1 s ⌝ }
+    requires { ⌜ Reached (source n (now pool) (now rows) rulecount (levelTables (now levels) (now priorities) (now literals) (now weights) entrycount)) s ⌝ }
     ensures { λ r. ⌜ r ≡ advanceOf (source n (now (pool .entry)) (now (rows .entry)) rulecount (levelTables (now (levels .entry)) (now (priorities .entry)) (now (literals .entry)) (now (weights .entry)) entrycount)) s ⌝ }
 {
     let phase = s.phase;

@@ -3,6 +3,7 @@
 use borrow.Author.Tests.{not-true, not-false}
 use Rattle.optimizer.proofs.Advancing.{one-advance, no-advance}
 use borrow.Author.Needs.{needs}
+use Rattle.optimizer.proofs.Reached.{reached-ready}
 use Rattle.optimizer.proofs.run.advance.Statement.{statement}
 use Rattle.optimizer.proofs.run.advance.Tie as tie
 
@@ -13,10 +14,10 @@ returns : tie.Need-returns
 returns c = no-advance _ _ (c .before .is-running .ensures) (not-true _ (c .if1 .taken))
 
 run-steps-requires : tie.Need-run-steps-requires
-run-steps-requires c κs = search needs
+run-steps-requires c κs = reached-ready (c .before .before .before .before .pre)
 
 returns-2 : tie.Need-returns-2
-returns-2 c = one-advance _ _ (c .before .before .before .is-running .ensures) (not-false _ (c .before .before .if1 .left)) (c .before .before .before .before .before .before .pre .figure) (c .before .run-steps .ensures)
+returns-2 c = one-advance _ _ (c .before .before .before .is-running .ensures) (not-false _ (c .before .before .if1 .left)) (reached-ready (c .before .before .before .before .before .before .pre) .figure) (c .before .run-steps .ensures)
 
 pub advance-spec : {M : Type 1} → statement M
 advance-spec = tie.close (tie.spec is-running-requires returns run-steps-requires returns-2)

@@ -1,0 +1,85 @@
+-- What holds of every optimization after any number of advances: what demand 3 says of it, in terms of the program that its tables hold. Assumes nothing: these
+-- are definitions.
+use mathlib.Core.Path.{_≡_}
+use mathlib.Core.Bool.{Bool, true, false}
+use mathlib.Core.List.{List, map}
+use Prim.Native.Nat.{ℕ, suc, _+_, _*_, _^_, _≤_, _<_}
+use lib.Dec.{ltb}
+use lib.ListN.{take, getD}
+use Rattle.asp.specs.Sets.{Set, setOf}
+use Rattle.asp.specs.Program.{Entry, All}
+use Rattle.asp.specs.Stable.{Stable}
+use Rattle.asp.specs.Cost.{cost, weight, total, NoDearer}
+use Rattle.cores.specs.Identity.{violatedWeight}
+use Rattle.cores.specs.Tables.{levelOf}
+use Rattle.optimizer.specs.declared.state.Phase.{Phase}
+use Rattle.optimizer.specs.declared.state.Phase.the-variants.{First, Level, Optimum, Incoherent, Full}
+use Rattle.optimizer.specs.declared.state.Search.{Search}
+use Rattle.optimizer.specs.Source.{Source, many, levelAt, levelsIn, rulesIn}
+use Rattle.optimizer.specs.Finish.{isRunning}
+use Rattle.optimizer.specs.Run.{bumpedBy}
+
+-- ---- the program that the tables hold
+
+abbrev pub Model : Source → Set → Type 0
+Model S M = Stable (rulesIn S) M
+
+-- "A set's cost lists the sum on each level", highest first
+abbrev pub costsIn : Source → Set → List ℕ
+costsIn S M = map (cost M) (levelsIn (S .levels))
+
+-- "W sums all levels"
+abbrev pub weightIn : Source → ℕ
+weightIn S = total (map weight (levelsIn (S .levels)))
+
+-- ---- what a look and a model call show of a state
+
+abbrev pub hasModel : Phase → Bool
+hasModel First = false
+hasModel Level = true
+hasModel Optimum = true
+hasModel Incoherent = false
+hasModel Full = true
+
+-- the level in work: there is one on a level and after full
+abbrev pub inWork : Phase → Bool
+inWork First = false
+inWork Level = true
+inWork Optimum = false
+inWork Incoherent = false
+inWork Full = true
+
+abbrev pub lowersIn : Source → Search → List ℕ
+lowersIn S s = take (many (S .levels)) (s .work .lowers)
+
+abbrev pub uppersIn : Source → Search → List ℕ
+uppersIn S s = take (many (S .levels)) (s .work .uppers)
+
+abbrev pub bestIn : Search → Set
+bestIn s = setOf (s .work .best)
+
+-- ---- the facts, where c advances were made
+
+pub record Facts (S : Source) (c : ℕ) (s : Search) : Type 0 where
+  -- "the figure stays at 2^64 - 1"
+  pub figure : s .advances ≡ bumpedBy c 0
+  -- "The lower bound is no dearer than any stable model."
+  pub lower : (M : Set) → Model S M → NoDearer ltb (lowersIn S s) (costsIn S M)
+  -- "The best model, once there is one, is stable and costs exactly the upper bound."
+  pub stable : hasModel (s .phase) ≡ true → Model S (bestIn s)
+  pub upper : hasModel (s .phase) ≡ true → uppersIn S s ≡ costsIn S (bestIn s)
+  -- "At optimum .. every other stable model costs at least as much."
+  pub optimum : s .phase ≡ Optimum → (M : Set) → Model S M → NoDearer ltb (costsIn S (bestIn s)) (costsIn S M)
+  -- "Once ended, the status is incoherent exactly when no stable model exists."
+  pub none-is : s .phase ≡ Incoherent → (M : Set) → Model S M → ⊥
+  pub is-none : isRunning (s .phase) ≡ false → ((M : Set) → Model S M → ⊥) → s .phase ≡ Incoherent
+  -- "while the status is running, fewer than 2^(n+1) × (2W + 1) advances have been made since the load"
+  pub few : isRunning (s .phase) ≡ true → c < 2 ^ suc (S .n) * (2 * weightIn S + 1)
+  -- "The status is never full if each level weighs 90 or less."
+  pub never-full : All (λ (l : List Entry). weight l ≤ 90) (levelsIn (S .levels)) → s .phase ≡ Full → ⊥
+  -- the level in work, from 0, is one of the levels, and its stratum is 1 or more
+  pub level : inWork (s .phase) ≡ true → s .work .level < many (S .levels)
+  pub stratum : inWork (s .phase) ≡ true → 1 ≤ s .work .stratum
+  -- "for every stable model with the settled costs, its cost here is the lower bound plus the remaining weights of its unmet wishes; this is proved at every point"
+  pub identity : inWork (s .phase) ≡ true → (M : Set) → Model S M → ((j : ℕ) → j < s .work .level → cost M (levelAt (S .levels) j) ≡ getD (s .work .lowers) j 0)
+      → cost M (levelAt (S .levels) (s .work .level)) ≡ getD (s .work .lowers) (s .work .level) 0 + violatedWeight M (levelOf (s .work .tables))
