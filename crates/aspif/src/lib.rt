@@ -1,6 +1,6 @@
 // aspif 1.0.0, as document 01 restricts it: reading a text into tables, refusing it, and writing it out.
 // Each reader works on one line and a position in it; a position stands for the rest of the line.
-mod token; // numbers by their form
+pub mod token; // numbers by their form
 mod field; // numbers, atoms and literals, by form, range and accepted part
 mod members; // the atoms of a head, the literals of a body or condition, into a pool
 mod rule; // `1 h m atoms b k literals`

@@ -32,14 +32,14 @@ use Rattle.cores.proofs.Links.{rests-count}
 use Rattle.cores.proofs.Strata.{assumed-length, assumed-distinct, assumed-heavy, every-assumed}
 use Rattle.cores.proofs.Unpacked.{judging-formed, judging-level}
 use Rattle.optimizer.specs.declared.state.Work.{Work}
-use Rattle.optimizer.specs.Optimize as abstract
+use Rattle.optimum.specs.Optimize as abstract
 use Rattle.optimizer.specs.Source.{Levels, Source, many, levelAt, levelsIn, rulesIn, FormedSource}
 use Rattle.optimizer.specs.Turn.{Query, queryOf, judgingOf, assumedIn, entryPlaces, wishedIn, settledFrom, inClass}
 use Rattle.optimizer.specs.Finish.{workQuery, freshWork}
 use Rattle.optimizer.specs.Ready.{ReadyQuery}
 use Rattle.optimizer.specs.Facts.{Model}
-use Rattle.optimizer.proofs.Floor.{Costs, Base}
-use Rattle.optimizer.proofs.Invariant.{Given, Among, firstQuery, levelQuery}
+use Rattle.optimum.proofs.Floor.{Costs, Base}
+use Rattle.optimum.proofs.Invariant.{Given, Among, firstQuery, levelQuery}
 use Rattle.optimizer.proofs.Fronts.{keep-length}
 use Rattle.optimizer.proofs.Turning.{all-at}
 use Rattle.optimizer.proofs.Verdicts.{Answers, nameOf}

@@ -1,7 +1,3 @@
-pub mod Floor
-pub mod Invariant
-pub mod Kept
-pub mod Claims
 pub mod Blaming
 pub mod Settled
 pub mod Turning

@@ -34,8 +34,8 @@ use Rattle.optimizer.specs.declared.state.Phase.{Phase}
 use Rattle.optimizer.specs.declared.state.Phase.the-variants.{First, Level, Optimum, Incoherent, Full}
 use Rattle.optimizer.specs.declared.state.Work.{Work}
 use Rattle.optimizer.specs.declared.state.Search.{Search}
-use Rattle.optimizer.specs.Optimize.{State, first, working, optimum, incoherent, full, costsOn, openNext, settle, better, withCore, withModel, noModel, begun}
-use Rattle.optimizer.specs.Optimize as abstract
+use Rattle.optimum.specs.Optimize.{State, first, working, optimum, incoherent, full, costsOn, openNext, settle, better, withCore, withModel, noModel, begun}
+use Rattle.optimum.specs.Optimize as abstract
 use Rattle.optimizer.specs.Source.{Levels, Source, many, levelAt, levelsIn, entriesIn, FormedLevels, FormedSource}
 use Rattle.optimizer.specs.Turn.{blamedOf}
 use Rattle.optimizer.specs.Finish.{work, Placed, placed, nextFrom, begunAt, openAt, openFrom, settleOf, costsOf, withBest, betterOf, fallen, withTables, triedWork, placesOf, freshWork}

@@ -24,8 +24,8 @@ use Rattle.optimizer.specs.declared.state.Trail.{Trail}
 use Rattle.optimizer.specs.declared.state.Blame.{Blame}
 use Rattle.optimizer.specs.declared.state.Work.{Work}
 use Rattle.optimizer.specs.declared.state.Search.{Search}
-use Rattle.optimizer.specs.Optimize.{onto, zeros, lowers, Running}
-use Rattle.optimizer.specs.Optimize as abstract
+use Rattle.optimum.specs.Optimize.{onto, zeros, lowers, Running}
+use Rattle.optimum.specs.Optimize as abstract
 use Rattle.optimizer.specs.Source.{Levels, Source, many, levelAt, levelsIn, FormedSource}
 use Rattle.optimizer.specs.Finish.{search as searchOf, placesOf, freshWork, freshSearch, workQuery, finishTurn, isRunning, bumped, advanceOf, advancesOf, madeBy}
 use Rattle.optimizer.specs.Turn.{blamedOf, Turned, turnOf}
@@ -34,8 +34,8 @@ use Rattle.optimizer.specs.Facts.{Model, costsIn, weightIn, hasModel, in
 use Rattle.search.specs.Places.{trailOf}
 use Rattle.search.specs.Trail as list
 use Rattle.optimizer.proofs.Verdicts.{seen}
-use Rattle.optimizer.proofs.Claims.{OnBest, Falls, work-falls, lowers-le, best-is, optimum-best, none-ends, incoherent-none, few-advances, never-full, identity}
-use Rattle.optimizer.proofs.Invariant.{GoodWork, Inv}
+use Rattle.optimum.proofs.Claims.{OnBest, Falls, work-falls, lowers-le, best-is, optimum-best, none-ends, incoherent-none, few-advances, never-full, identity}
+use Rattle.optimum.proofs.Invariant.{GoodWork, Inv}
 use Rattle.optimizer.proofs.Advancing.{advances-plus}
 use Rattle.optimizer.proofs.Classes.{pastAt, settledAt, laterAt, workOf, given, costs-at}
 use Rattle.optimizer.proofs.Meanings.{meantBy, meant, OnLevel, AtEnd, InOrder, costs-are}

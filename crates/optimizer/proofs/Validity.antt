@@ -31,14 +31,14 @@ use Rattle.optimizer.specs.declared.state.Work.{Work}
 use Rattle.optimizer.specs.declared.state.Search.{Search}
 use Rattle.optimizer.specs.declared.state.Turn.{Turn}
 use Rattle.optimizer.specs.declared.state.Turn.the-variants.{Going, Without, Model}
-use Rattle.optimizer.specs.Optimize.{State, openNext, noModel, settle, withModel, afterFirst, afterWork}
+use Rattle.optimum.specs.Optimize.{State, openNext, noModel, settle, withModel, afterFirst, afterWork}
 use Rattle.optimizer.specs.Source.{Levels, Source, many, levelAt, levelsIn, entriesIn, FormedSource}
 use Rattle.optimizer.specs.Turn.{Query, queryOf, blamedOf, Turned, turned, Turns, turns, turnOf, turnsOf, isGoing}
 use Rattle.optimizer.specs.Finish.{Placed, placed, withBest, openFrom, search as searchOf, trail, placesOf, freshTrail, freshBlame, freshWork, freshSearch, ended, finishOf, afterTurns, finishTurn, workQuery, isRunning, bumped, advanceOf, advancesOf, madeBy}
 use Rattle.optimizer.specs.Ready.{ReadyQuery, GoodBlame, ReadyCore}
 use Rattle.optimizer.specs.Run.{bumpedBy, stepsOf, ReadyRun}
-use Rattle.optimizer.proofs.Invariant.{Given, levelQuery, firstQuery, GoodWork, GoodFirst, GoodWorking, Inv}
-use Rattle.optimizer.proofs.Kept.{core-of, turn-kept, first-kept, start-kept}
+use Rattle.optimum.proofs.Invariant.{Given, levelQuery, firstQuery, GoodWork, GoodFirst, GoodWorking, Inv}
+use Rattle.optimum.proofs.Kept.{core-of, turn-kept, first-kept, start-kept}
 use Rattle.optimizer.proofs.Turning.{turn-sound, turn-blame}
 use Rattle.optimizer.proofs.Finishing.{formed-in}
 use Rattle.optimizer.proofs.Fresh.{drop-all, fresh-query, fresh-trail}

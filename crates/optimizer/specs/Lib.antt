@@ -1,4 +1,3 @@
-pub mod Optimize
 pub mod Source
 pub mod Turn
 pub mod Finish

@@ -26,9 +26,9 @@ use Rattle.cores.proofs.Record.{kept, some-violated}
 use Rattle.cores.proofs.Open.{opened-good, cost-le}
 use Rattle.cores.proofs.Strata.{greatest-le, greatest-none, under-lt, under-none}
 use Rattle.cores.proofs.Limits.{Fits, opened-fits, fits-kept, met-costs-lower, lower-bounds}
-use Rattle.optimizer.specs.Optimize.{Work, State, first, working, optimum, incoherent, full, Tests, onto, better, begun, openNext, settle, withCore, withModel, noModel, afterFirst, afterWork, advance, after}
-use Rattle.optimizer.proofs.Floor.{Costs, Base, Floor, weights, better-is, better-cost}
-use Rattle.optimizer.proofs.Invariant.{Given, Among, firstQuery, levelQuery, power, GoodWork, Paid, GoodFirst, GoodWorking, GoodEnd, GoodFull, Inv, Right}
+use Rattle.optimum.specs.Optimize.{Work, State, first, working, optimum, incoherent, full, Tests, onto, better, begun, openNext, settle, withCore, withModel, noModel, afterFirst, afterWork, advance, after}
+use Rattle.optimum.proofs.Floor.{Costs, Base, Floor, weights, better-is, better-cost}
+use Rattle.optimum.proofs.Invariant.{Given, Among, firstQuery, levelQuery, power, GoodWork, Paid, GoodFirst, GoodWorking, GoodEnd, GoodFull, Inv, Right}
 
 -- ---- numbers: P is more than a query takes, t the weight of the settled levels, b the lower bound, W the level's weight, s the stratum
 

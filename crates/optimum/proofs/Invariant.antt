@@ -15,8 +15,8 @@ use Rattle.cores.specs.Soft.{violated}
 use Rattle.cores.specs.Level.{room}
 use Rattle.cores.specs.Identity.{Good, Core, problem}
 use Rattle.cores.proofs.Limits.{Fits}
-use Rattle.optimizer.specs.Optimize.{Work, State, first, working, optimum, incoherent, full, Tests, onto}
-use Rattle.optimizer.proofs.Floor.{Base, Floor, weights}
+use Rattle.optimum.specs.Optimize.{Work, State, first, working, optimum, incoherent, full, Tests, onto}
+use Rattle.optimum.proofs.Floor.{Base, Floor, weights}
 
 -- atoms 1 to n, the models, and the levels
 pub record Given : Type 1 where

@@ -14,7 +14,7 @@ use Rattle.asp.specs.Program.{Entry}
 use Rattle.asp.specs.Cost.{cost, weight, total, cheaper, NoDearer}
 use Rattle.asp.proofs.Order.{ltb-linear, no-dearer-refl, cheaper-no-dearer, cheaper-or}
 use Rattle.asp.proofs.Stability.{yes-or-left, yes-or-right}
-use Rattle.optimizer.specs.Optimize.{costsOn, onto, better, zeros}
+use Rattle.optimum.specs.Optimize.{costsOn, onto, better, zeros}
 
 -- M costs bs on the settled levels
 abbrev pub Costs : List (List Entry) → List ℕ → Set → Type 0

@@ -22,10 +22,10 @@ use Rattle.cores.specs.Soft.{violated}
 use Rattle.cores.specs.Level.{Level, room}
 use Rattle.cores.specs.Identity.{Core, problem, violatedWeight}
 use Rattle.cores.proofs.Limits.{has-room, lower-bounds}
-use Rattle.optimizer.specs.Optimize.{Work, State, first, working, optimum, incoherent, full, Tests, costsOn, onto, better, begun, openNext, settle, withCore, withModel, noModel, afterFirst, afterWork, advance, after, advances, bestOf, zeros, workLowers, lowers, uppers, Running, Incoherent}
-use Rattle.optimizer.proofs.Floor.{Costs, Base, Floor, weights, weights-onto, floor-le, onto-costs, onto-long, zeros-long, zeros-le, costs-long, better-le}
-use Rattle.optimizer.proofs.Invariant.{Given, Among, power, GoodWork, GoodWorking, GoodFull, GoodEnd, Inv, Right}
-use Rattle.optimizer.proofs.Kept.{holds-after, paid-bound}
+use Rattle.optimum.specs.Optimize.{Work, State, first, working, optimum, incoherent, full, Tests, costsOn, onto, better, begun, openNext, settle, withCore, withModel, noModel, afterFirst, afterWork, advance, after, advances, bestOf, zeros, workLowers, lowers, uppers, Running, Incoherent}
+use Rattle.optimum.proofs.Floor.{Costs, Base, Floor, weights, weights-onto, floor-le, onto-costs, onto-long, zeros-long, zeros-le, costs-long, better-le}
+use Rattle.optimum.proofs.Invariant.{Given, Among, power, GoodWork, GoodWorking, GoodFull, GoodEnd, Inv, Right}
+use Rattle.optimum.proofs.Kept.{holds-after, paid-bound}
 
 -- a fact of the best model, where there is one
 abbrev pub OnBest : (Set → Type 0) → Option Set → Type 0

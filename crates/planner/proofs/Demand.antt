@@ -1,0 +1,173 @@
+-- Demand 3. Assumes nothing.
+use mathlib.Core.Path.{_≡_, refl, sym, ap, _∙_, subst}
+use mathlib.Core.Bool.{Bool, true, false, true≢false}
+use mathlib.Core.List.{List, []}
+use mathlib.Core.Logic.{inl, inr}
+use mathlib.Core.Option.{some}
+use Prim.Native.Nat.{ℕ, suc, _+_, _*_, _^_, _≤_, _<_}
+use native.Mathlib.Omega.{arith}
+use lib.Dec.{ltb}
+use lib.ListN.{length, drop, drop-of-length-le}
+use borrow.Author.Tests.{le-ltb}
+use Rattle.asp.specs.Sets.{Set}
+use Rattle.asp.specs.Program.{Program, Entry, All, atoms}
+use Rattle.asp.specs.Stable.{Stable}
+use Rattle.asp.specs.Cost.{weight, W, costs, NoDearer}
+use Rattle.aspif.specs.Text.{Answer, accepted, textOf}
+use Rattle.aspif.specs.Store.{storedProgram, storedText, WellFormed}
+use Rattle.aspif.specs.declared.text.Stored.{Stored}
+use Rattle.aspif.proofs.Spans.{append-nil, span-length}
+use Rattle.optimizer.specs.declared.state.Phase.the-variants.{Optimum}
+use Rattle.optimizer.specs.declared.state.Search.{Search}
+use Rattle.optimizer.specs.Source.{Source}
+use Rattle.optimizer.specs.Finish.{freshSearch, advancesOf, madeBy}
+use Rattle.optimizer.specs.Facts.{Facts, hasModel, lowersIn, uppersIn, bestIn, costsIn}
+use Rattle.optimizer.proofs.Reached.{reached-facts}
+use Rattle.planner.specs.declared.service.Service.{Service}
+use Rattle.planner.specs.declared.service.Status.the-variants as status
+use Rattle.planner.specs.Held.{freshService, sourceOf, statusOf}
+use Rattle.planner.specs.Sound.{Sound}
+use Rattle.planner.specs.Calls.{gives, Loads, outcome, fills, filled, unfilled, given, byteOf, modelBytes, modelCall, AfterLoad}
+use Rattle.planner.specs.Tally.{load, Does, Tally, tally, begin}
+use Rattle.planner.specs.Demand.{BestBy, RunIs, Claim, Demand, Demand3}
+use Rattle.planner.proofs.Answers.{at-true}
+use Rattle.planner.proofs.Moving.{at-false}
+use Rattle.planner.proofs.Link.{formed-source, levels-is, weight-is, costs-is}
+use Rattle.planner.proofs.Counting.{figure-min, runs-is, status-running, status-optimum, status-incoherent, status-full, made-most, made-ends, run-advances}
+use Rattle.planner.proofs.Symbols.{name-by, shown-gone, shown-by, shown-without}
+use Rattle.planner.proofs.Together.{after, steppedTo, toldAs, Now, Together, together}
+
+-- n bytes into n lent bytes
+exactly : (s : Service) (n : ℕ) (t b : List ℕ) → length t ≡ n → length b ≡ n → filled s t b ≡ fills (gives n) s t
+exactly s n t b e f =
+    let d : drop (length t) b ≡ [] = drop-of-length-le b {i = length t} (omega arith) in
+    rw (le-ltb (length b) (length t) (omega arith), d, append-nil t, e)
+
+-- ---- the claim, of the tables p after k advances
+
+module _ (t : List ℕ) (p : Stored) (w : WellFormed p) (k : ℕ) where
+  abbrev S : Source
+  S = sourceOf p
+
+  abbrev q : Search
+  q = after p k
+
+  abbrev P : Program
+  P = storedProgram p
+
+  abbrev s : Service
+  s = steppedTo p k
+
+  facts : Facts S (madeBy S k freshSearch) q
+  facts = reached-facts S (formed-source p w) k
+
+  written : hasModel (q .phase) ≡ true → (b : List ℕ) → modelCall s b ≡ filled s (modelBytes (bestIn q) (atoms P)) b
+  written e b =
+      sym (at-true (hasModel (q .phase)) (filled s (modelBytes (bestIn q) (p .counts .atoms)) b) (unfilled 7 s b) e)
+      ∙ ap (λ (n : ℕ). filled s (modelBytes (bestIn q) n) b) (w .atoms)
+
+  best-of : BestBy P s (given (hasModel (q .phase)) (uppersIn S q))
+  best-of = go (hasModel (q .phase)) refl
+    where
+      go : (m : Bool) → hasModel (q .phase) ≡ m → BestBy P s (given m (uppersIn S q))
+      go true e =
+          record {
+            model = bestIn q;
+            writes = written e;
+            exactly = λ b h. written e b ∙ exactly s (atoms P) (modelBytes (bestIn q) (atoms P)) b (span-length (byteOf (bestIn q)) 1 (atoms P)) h;
+            stable = facts .stable e;
+            costs = sym (costs-is p w (bestIn q)) ∙ sym (facts .upper e);
+            shows = λ i y h. shown-by p q i y h e;
+          }
+      go false e =
+          record {
+            model = λ b. sym (at-false (hasModel (q .phase)) (filled s (modelBytes (bestIn q) (p .counts .atoms)) b) (unfilled 7 s b) e);
+            shows = λ i y h. shown-without p q i y h e;
+          }
+
+  optimum-of : statusOf (q .phase) ≡ status.Optimum
+      → (u : List ℕ) × (given (hasModel (q .phase)) (uppersIn S q) ≡ some u) × ((M : Set) → Stable (P .rules) M → NoDearer ltb u (costs P M))
+  optimum-of h =
+      let e : q .phase ≡ Optimum = status-optimum (q .phase) h in
+      let m : hasModel (q .phase) ≡ true = ap hasModel e in (
+        uppersIn S q,
+        ap (λ (b : Bool). given b (uppersIn S q)) m,
+        λ M g.
+            subst (λ (x : List ℕ). NoDearer ltb x (costs P M)) (sym (facts .upper m))
+            (subst (λ (x : List ℕ). NoDearer ltb (costsIn S (bestIn q)) x) (costs-is p w M) (facts .optimum e M g)),
+      )
+
+  few-of : statusOf (q .phase) ≡ status.Running → madeBy S k freshSearch < 2 ^ suc (atoms P) * (2 * W P + 1)
+  few-of h =
+      subst (λ (n : ℕ). madeBy S k freshSearch < 2 ^ suc n * (2 * W P + 1)) (w .atoms)
+      (subst (λ (x : ℕ). madeBy S k freshSearch < 2 ^ suc (p .counts .atoms) * (2 * x + 1)) (weight-is p w) (facts .few (status-running (q .phase) h)))
+
+  runs-of : (b : ℕ) → RunIs b s
+  runs-of b =
+      record {
+        made = madeBy S b q;
+        held = statusOf (advancesOf S b q .phase);
+        answer = refl;
+        advances = run-advances p b q;
+        most = made-most S b q;
+        ends = λ h. runs-is (advancesOf S b q .phase) ∙ made-ends S b q h;
+      }
+
+  claim-of : Claim P (storedText p) s (toldAs t p k)
+  claim-of =
+      record {
+        loaded = refl;
+        standing = refl;
+        counted = facts .figure ∙ figure-min (madeBy S k freshSearch);
+        priorities = refl;
+        writes = λ b. refl;
+        names = name-by p q;
+        unnamed = shown-gone p q;
+        lower = λ M g. subst (NoDearer ltb (lowersIn S q)) (costs-is p w M) (facts .lower M g);
+        best = best-of;
+        optimum = optimum-of;
+        incoherent = λ h. facts .none-is (status-incoherent (q .phase) h);
+        without = λ h g. ap statusOf (facts .is-none (sym (runs-is (q .phase)) ∙ h) g);
+        few = few-of;
+        never-full = λ g h. facts .never-full (subst (All (λ (l : List Entry). weight l ≤ 90)) (sym (levels-is p w)) g) (status-full (q .phase) h);
+        runs = runs-of;
+      }
+
+  sound-of : Sound s
+  sound-of = record { formed = λ h. w; reached = λ h. record { source = formed-source p w; made = k; is = refl } }
+
+-- ---- a load leaves what it could have left of a fresh service
+
+fresh-of : (s : Service) (t : List ℕ) (P : Program) (w : List ℕ) → textOf t ≡ accepted P w → (a : Loads) (u : Service) → Does (load t) s a u → Does (load t) freshService a u
+fresh-of s t P w e a u d = subst (λ (x : Answer). AfterLoad x freshService (outcome a u)) (sym e) (subst (λ (x : Answer). AfterLoad x s (outcome a u)) e d)
+
+-- ---- DEMAND 3
+
+sound-fresh : Sound freshService
+sound-fresh = record { formed = λ h. absurd (true≢false (sym h)); reached = λ h. absurd (true≢false (sym h)) }
+
+demand-idle : Demand freshService begin
+demand-idle = record { sound = sound-fresh; claim = record { loaded = refl; tally = refl; look = refl }; fresh = fresh-of freshService }
+
+demand-now : (t : List ℕ) {s : Service} {T : Tally} → Now t s T → Demand s T
+demand-now t {s} {T} n =
+    let p = n .stored in
+    let k = n .steps in
+    let w = n .tables .formed in
+    let c : Claim (n .program) (n .written) (steppedTo p k) (toldAs t p k) =
+    subst (λ (x : Program). Claim x (n .written) (steppedTo p k) (toldAs t p k)) (n .tables .program)
+    (subst (λ (x : List ℕ). Claim (storedProgram p) x (steppedTo p k) (toldAs t p k)) (n .tables .text) (claim-of t p w k)) in
+    let d : Demand (steppedTo p k) (toldAs t p k) =
+    record {
+      sound = sound-of t p w k;
+      claim = record { program = n .program; written = n .written; is = n .is; claim = c };
+      fresh = fresh-of (steppedTo p k);
+    } in
+    subst (λ (x : Service). Demand x T) (sym (n .service-is)) (subst (Demand (steppedTo p k)) (sym (n .tally-is)) d)
+
+demand-of : (s : Service) (T : Tally) → Together s T → Demand s T
+demand-of s T (inl (e, f)) = subst (λ (x : Service). Demand x T) (sym e) (subst (Demand freshService) (sym f) demand-idle)
+demand-of s T (inr (t, n)) = demand-now t n
+
+pub demand-3 : Demand3
+demand-3 cs s T l = demand-of s T (together cs freshService begin (inl (refl, refl)) s T l)

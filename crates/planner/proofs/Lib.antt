@@ -1,0 +1,10 @@
+pub mod Fresh
+pub mod Answers
+pub mod Link
+pub mod Filling
+pub mod Moving
+pub mod Counting
+pub mod Symbols
+pub mod Together
+pub mod Kept
+pub mod Demand

@@ -1,0 +1,15 @@
+-- `planner::advance::used` meets its contract. Assumes nothing.
+use mathlib.Core.Path.{sym}
+use lib.Seq.{length-take-le}
+use borrow.Author.Needs.{needs}
+use Rattle.planner.proofs.advance.used.Statement.{statement}
+use Rattle.planner.proofs.advance.used.Tie as tie
+
+slice-aggregate-result : tie.Need-slice-aggregate-result
+slice-aggregate-result c = sym (length-take-le _ _ (c .before .pre))
+
+returns : tie.Need-returns
+returns c = search needs
+
+pub used-spec : {M : Type 1} → statement M
+used-spec = tie.close (tie.spec slice-aggregate-result returns)

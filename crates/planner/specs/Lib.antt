@@ -1,0 +1,5 @@
+pub mod Held
+pub mod Sound
+pub mod Calls
+pub mod Tally
+pub mod Demand

@@ -1,0 +1,40 @@
+// Load: a text in place of what was loaded.
+use crate::service::Service;
+use aspif::text::Loading;
+ghost use Rattle.aspif.specs.Text.{textOf};
+ghost use Rattle.planner.specs.Calls.{outcome, saysLoad, AfterLoad};
+
+pub struct Loaded {
+    pub service: Service,
+    pub answer: Loading,
+}
+
+// "accepted, the service is as a fresh one given it, with status running"; refused, it is as before.
+pub fn load(s: Service, text: &[u8]) -> Loaded
+    ensures { λ r. ⌜ AfterLoad (textOf (now (text .entry))) s (outcome (saysLoad (r .answer)) (r .service)) ⌝ }
+{
+    let l = aspif::text::load(text);
+    let answer = l.answer;
+    match answer {
+        Loading::Accepted => {
+            let p = l.stored;
+            let q = optimizer::run::fresh();
+            let next = Service {
+                loaded: true,
+                stored: p,
+                search: q,
+            };
+            Loaded {
+                service: next,
+                answer: Loading::Accepted,
+            }
+        }
+        Loading::RefusedAt { number, line } => Loaded {
+            service: s,
+            answer: Loading::RefusedAt {
+                number: number,
+                line: line,
+            },
+        },
+    }
+}
