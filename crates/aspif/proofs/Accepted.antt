@@ -11,10 +11,10 @@ use borrow.Author.Tests.{leb-true, eqb-false}
 use Rattle.asp.specs.Sets.{pick, In}
 use Rattle.asp.specs.Program.{Literal, normal, Head, constraint, plain, choice, Rule, Entry, Symbol, Program, All, LiteralIn, HeadIn, RuleIn, ProgramIn}
 use Rattle.asp.specs.Tables.{named, plainHead}
-use Rattle.aspif.specs.Text.{both, within, Read, got, bad, bind, next, token, number, signed, field, natural, atom, literal, member, more, nil, ended, Opening, opening, bodyCount, headOf, ruleOf, ruleLine, pair, Minimise, minimiseLine, nameByte, symbolLine, Statement, rule, minimise, symbol, comment, final, ofKind, statement, Reading, add, addRule, addMinimise, addSymbol, insert, fits, nothing, isFinal, Step, stop, last, goes, led, stepped, judged, lines, same, header, none, opened, headed, pieces, sum, textOf, Answer, accepted, refused}
+use Rattle.aspif_lines.specs.Text.{both, within, Read, got, bad, bind, next, token, number, signed, field, natural, atom, literal, member, more, nil, ended, Opening, opening, bodyCount, headOf, ruleOf, ruleLine, pair, Minimise, minimiseLine, nameByte, symbolLine, Statement, rule, minimise, symbol, comment, final, ofKind, statement, Reading, add, addRule, addMinimise, addSymbol, insert, fits, nothing, isFinal, Step, stop, last, goes, led, stepped, judged, lines, same, header, none, opened, headed, pieces, sum, textOf, Answer, accepted, refused}
 use Rattle.aspif.specs.Store.{Descending}
 use Rattle.aspif.proofs.Levels.{descending-insert}
-use Rattle.aspif.proofs.Signs.{abs-neg}
+use Rattle.aspif_lines.proofs.Signs.{abs-neg}
 
 -- ---- what is read, if something is
 

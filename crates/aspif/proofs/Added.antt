@@ -12,13 +12,13 @@ use borrow.Author.Tests.{ne-eqb}
 use Rattle.asp.specs.Sets.{pick}
 use Rattle.asp.specs.Program.{Rule, Entry, Symbol, highest, ruleAtoms}
 use Rattle.asp.specs.Tables.{span, literalsAt, atomsAt, entryAt, entriesOf, Row, rowAt, ruleAt, rulesOf, symbolAt, symbolsOf, named}
-use Rattle.aspif.specs.Text.{Read, got, bad, ruleOf, headOf, ruleLine, Minimise, minimiseLine, symbolLine, insert, sum, ruleSize, conditionSize, nameSize}
-use Rattle.aspif.specs.Seen.{bytesAt, entriesAt, Kept, Positive, Pushed}
+use Rattle.aspif_lines.specs.Text.{Read, got, bad, ruleOf, headOf, ruleLine, Minimise, minimiseLine, symbolLine, insert, sum, ruleSize, conditionSize, nameSize}
+use Rattle.aspif_lines.specs.Seen.{bytesAt, entriesAt, Kept, Positive, Pushed}
 use Rattle.aspif.specs.Store.{RulesSound, RuleAdded, ruleCounts, SymbolsSound, SymbolAdded, symbolCounts, MinimiseAdded, minimiseCounts}
 use Rattle.aspif.specs.declared.table.Counts.{Counts}
-use Rattle.aspif.proofs.Tokens.{lt-or-le}
-use Rattle.aspif.proofs.Spans.{span-same, span-append, span-snoc, span-length, span-map, literalsAt-kept}
-use Rattle.aspif.proofs.Heads.{head-atoms, head-size, length-map}
+use Rattle.aspif_lines.proofs.Tokens.{lt-or-le}
+use Rattle.aspif_lines.proofs.Spans.{span-same, span-append, span-snoc, span-length, span-map, literalsAt-kept}
+use Rattle.aspif_lines.proofs.Heads.{head-atoms, head-size, length-map}
 
 pub sum-snoc : {A : Type 0} (f : A → ℕ) (xs : List A) (x : A) → sum f (xs ++ (x ∷ [])) ≡ sum f xs + f x
 unfolding sum

@@ -11,7 +11,7 @@ use lib.ListN.{length, length-append}
 use borrow.Author.Tests.{ltb-false, le-ltb}
 use Rattle.asp.specs.Sets.{pick}
 use Rattle.asp.specs.Program.{Program, All}
-use Rattle.aspif.specs.Text.{Read, got, bad, Statement, rule, minimise, symbol, comment, final, statement, Reading, add, line, fits, pieces, longer, nothing, Step, stop, last, goes, led, stepped, judged, lines, same, header, opened, headed, sum, textOf, Answer, accepted, refused}
+use Rattle.aspif_lines.specs.Text.{Read, got, bad, Statement, rule, minimise, symbol, comment, final, statement, Reading, add, line, fits, pieces, longer, nothing, Step, stop, last, goes, led, stepped, judged, lines, same, header, opened, headed, sum, textOf, Answer, accepted, refused}
 use Rattle.aspif.proofs.Onwards.{pieces-some, nothing-more, goes-on, last-on}
 use Rattle.aspif.proofs.RoundTrip.{Clean, joined, pieces-joined}
 

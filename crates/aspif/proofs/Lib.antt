@@ -1,8 +1,4 @@
-pub mod Tokens
-pub mod Signs
-pub mod Spans
 pub mod Pieces
-pub mod Heads
 pub mod Added
 pub mod Levels
 pub mod Lines

@@ -11,13 +11,13 @@ use borrow.Author.Tests.{eq-eqb, ne-eqb, eqb-true, eqb-false}
 use Rattle.asp.specs.Sets.{pick}
 use Rattle.asp.specs.Program.{Rule, Entry, Symbol, Program, highest, ruleAtoms, atoms}
 use Rattle.asp.specs.Tables.{span, literalsAt, rowAt, symbolAt, symbolsOf, programOf}
-use Rattle.aspif.specs.Text.{Read, got, bad, bind, nil, ended, number, ruleLine, minimiseLine, symbolLine, Minimise, rule, minimise, symbol, comment, final, ofKind, statement, Reading, addRule, addMinimise, addSymbol, line, add, led, stepped, Step, stop, last, goes}
-use Rattle.aspif.specs.Seen.{bytesAt, Kept}
+use Rattle.aspif_lines.specs.Text.{Read, got, bad, bind, nil, ended, number, ruleLine, minimiseLine, symbolLine, Minimise, rule, minimise, symbol, comment, final, ofKind, statement, Reading, addRule, addMinimise, addSymbol, line, add, led, stepped, Step, stop, last, goes}
+use Rattle.aspif_lines.specs.Seen.{bytesAt, Kept}
 use Rattle.aspif.specs.Store.{SymbolsSound, RuleAdded, AddedRule, MinimiseAdded, AddedMinimise, SymbolAdded, AddedSymbol, otherTurn, finalCounts, ruleCounts, minimiseCounts, symbolCounts, Lists, lists, Sized, tables, readingOf, Sound, seenTurn, TurnAfter, Descending}
 use Rattle.aspif.specs.declared.table.Counts.{Counts}
 use Rattle.aspif.specs.declared.add.Turn.{Turn}
 use Rattle.aspif.specs.declared.add.Turn.the-variants.{Stop, Last, Goes}
-use Rattle.aspif.proofs.Spans.{span-same, highest-snoc}
+use Rattle.aspif_lines.proofs.Spans.{span-same, highest-snoc}
 use Rattle.aspif.proofs.Levels.{descending-insert}
 
 highest-append : {A : Type 0} (f : A → ℕ) (xs ys : List A) → highest f (xs ++ ys) ≡ max (highest f xs) (highest f ys)

@@ -11,7 +11,7 @@ use borrow.Author.Tests.{ltb-false}
 use Rattle.asp.specs.Sets.{pick, In}
 use Rattle.asp.specs.Program.{Literal, Body, normal, Head, constraint, plain, choice, Rule, Entry, Symbol, Program, highest, bodyAtoms, headAtoms, ruleAtoms, atoms, All, LiteralIn, BodyIn, HeadIn, RuleIn, ProgramIn}
 use Rattle.asp.specs.Tables.{span, rowAt, RowIn, Formed, programOf}
-use Rattle.aspif.specs.Text.{textOf, headed, pieces, Answer, accepted, refused}
+use Rattle.aspif_lines.specs.Text.{textOf, headed, pieces, Answer, accepted, refused}
 use Rattle.aspif.specs.Store.{Lists, tables, readingOf, Sound, Within, seenVerdict, VerdictAfter, countsOf, answerFor, answerOf, listsOf, storedProgram, storedText, WellFormed, StoredAfter}
 use Rattle.aspif.specs.declared.table.Counts.{Counts}
 use Rattle.aspif.specs.declared.text.Stored.{Stored}
@@ -19,7 +19,7 @@ use Rattle.aspif.specs.declared.text.Loading.{Loading}
 use Rattle.aspif.specs.declared.text.Loading.the-variants.{Accepted, RefusedAt}
 use Rattle.aspif.specs.declared.text.Verdict.{Verdict}
 use Rattle.aspif.specs.declared.text.Verdict.the-variants.{Taken, Refused}
-use Rattle.aspif.proofs.Spans.{span-length}
+use Rattle.aspif_lines.proofs.Spans.{span-length}
 use Rattle.aspif.proofs.Onwards.{fits-of, limits-within}
 use Rattle.aspif.proofs.Accepted.{Fine, Good, accepted-good}
 use Rattle.aspif.proofs.RoundTrip.{stored-short, accepted-short, round-trip}

@@ -3,7 +3,7 @@ use mathlib.Core.Path.{_≡_, refl, sym, ap, _∙_}
 use mathlib.Core.Bool.{Bool, true, false}
 use mathlib.Core.List.{List, [], _∷_, _++_}
 use mathlib.Core.Logic.{⊎-elim}
-use Rattle.aspif.proofs.Tokens.{lt-or-le}
+use Rattle.aspif_lines.proofs.Tokens.{lt-or-le}
 use Prim.Native.Nat.{ℕ, zero, suc, _+_, _-_, _≤_, _<_}
 use native.Mathlib.Omega.{arith}
 use native.Mathlib.Numerals.{add-one}
@@ -14,15 +14,15 @@ use lib.Seq.{drop-cons}
 use borrow.Author.Tests.{eqb-true, eqb-false, leb-true}
 use Rattle.asp.specs.Sets.{pick}
 use Rattle.asp.specs.Tables.{ruleAt, symbolAt, entryAt, rowAt}
-use Rattle.aspif.specs.Text.{both, pieces, longer, nothing, judged, lines, stepped, fits, limits, Reading, Step, stop, last, goes, Answer, accepted, refused}
-use Rattle.aspif.specs.Seen.{follow}
+use Rattle.aspif_lines.specs.Text.{both, pieces, longer, nothing, judged, lines, stepped, fits, limits, Reading, Step, stop, last, goes, Answer, accepted, refused}
+use Rattle.aspif_lines.specs.Seen.{follow}
 use Rattle.aspif.specs.Store.{Within, Lists, readingOf, Sound, seenTurn, TurnAfter, onwardOf, seenOnward, OnwardAfter}
 use Rattle.aspif.specs.declared.table.Counts.{Counts}
 use Rattle.aspif.specs.declared.add.Turn.{Turn}
 use Rattle.aspif.specs.declared.add.Turn.the-variants.{Stop, Last, Goes}
 use Rattle.aspif.specs.declared.text.Onward.{Onward}
 use Rattle.aspif.specs.declared.text.Onward.the-variants.{Refuse, Accept, On}
-use Rattle.aspif.proofs.Spans.{span-length}
+use Rattle.aspif_lines.proofs.Spans.{span-length}
 
 pub pieces-some : (s : List ℕ) → pieces s ≡ [] → ⊥
 unfolding pieces
@@ -176,3 +176,8 @@ pub record ReadUpTo (s : List ℕ) (t₀ : Lists) (n₀ : Counts) (from : ℕ) (
   pub text : n .text ≤ at
   pub line : m ≤ at
   pub inside : at ≤ length s
+
+-- what a line leads to is what the whole text leads to
+pub left-onward : {s : List ℕ} {t₀ : Lists} {n₀ : Counts} {from : ℕ} {t : Lists} {n : Counts} {at m : ℕ} → ReadUpTo s t₀ n₀ from t n at m → (t₁ : Lists) (r : Onward)
+    → ((m : ℕ) → seenOnward s t₁ m r ≡ lines m (readingOf t n) (pieces (drop at s))) → seenOnward s t₁ m r ≡ lines 2 (readingOf t₀ n₀) (pieces (drop from s))
+left-onward {m = m} i t₁ r e = e m ∙ i .left

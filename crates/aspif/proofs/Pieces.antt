@@ -7,15 +7,15 @@ use native.Mathlib.Omega.{arith}
 use native.Mathlib.Numerals.{add-one}
 use lib.Dec.{eqb}
 use mathlib.Core.Logic.{⊎-elim}
-use Rattle.aspif.proofs.Tokens.{lt-or-le}
+use Rattle.aspif_lines.proofs.Tokens.{lt-or-le}
 use lib.ListN.{length, getD, take, drop, set, length-set, length-drop}
 use lib.Seq.{take-suc, take-length, getD-set-same, getD-set-other, getD-drop, drop-drop}
 use borrow.Author.Tests.{eq-eqb, ne-eqb}
 use Rattle.asp.specs.Sets.{pick}
-use Rattle.aspif.specs.Text.{pieces, longer, line}
+use Rattle.aspif_lines.specs.Text.{pieces, longer, line}
 use Rattle.asp.specs.Tables.{span}
-use Rattle.aspif.specs.Seen.{follow, bytesAt, Kept}
-use Rattle.aspif.proofs.Spans.{span-same, span-shift, span-append, span-snoc}
+use Rattle.aspif_lines.specs.Seen.{follow, bytesAt, Kept}
+use Rattle.aspif_lines.proofs.Spans.{span-same, span-shift, span-append, span-snoc}
 
 pieces-run : (k : ℕ) (s : List ℕ) → ((j : ℕ) → j < k → getD s j 0 ≡ 10 → ⊥) → k ≤ length s → (k < length s → getD s k 0 ≡ 10) → pieces s ≡ take k s ∷ follow (drop k s)
 unfolding pieces

@@ -9,10 +9,10 @@ use lib.ListN.{length, length-append}
 use borrow.Author.Tests.{eqb-true, eqb-false, ne-eqb, eq-eqb, ltb-false, le-ltb}
 use Rattle.asp.specs.Sets.{pick}
 use Rattle.asp.specs.Program.{Program, All}
-use Rattle.aspif.specs.Text.{Read, got, bad, Statement, rule, minimise, symbol, comment, final, statement, Reading, add, line, fits, pieces, longer, nothing, Step, stop, last, goes, led, stepped, judged, lines, same, header, opened, headed, textOf, Answer, accepted, refused}
+use Rattle.aspif_lines.specs.Text.{Read, got, bad, Statement, rule, minimise, symbol, comment, final, statement, Reading, add, line, fits, pieces, longer, nothing, Step, stop, last, goes, led, stepped, judged, lines, same, header, opened, headed, textOf, Answer, accepted, refused}
 use Rattle.aspif.proofs.Onwards.{pieces-some, goes-on, last-on}
 use Rattle.aspif.proofs.Texts.{same-true, same-refl}
-use Rattle.aspif.proofs.Spans.{append-nil}
+use Rattle.aspif_lines.proofs.Spans.{append-nil}
 
 -- ---- lines: bytes but 10, each with a byte 10 after it
 

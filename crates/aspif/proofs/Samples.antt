@@ -5,7 +5,7 @@ use mathlib.Core.List.{List, [], _∷_, map}
 use Prim.Native.Nat.{ℕ}
 use lib.IntN.{ℤ, pos, negsuc}
 use Rattle.asp.specs.Program.{normal, constraint, plain, choice, Rule, Entry, Symbol, Program}
-use Rattle.aspif.specs.Text.{textOf, pieces, same, lines, stepped, statement, token, number, digits, decimal, natural, signed, atom, literal, more, opening, bodyCount, ruleLine, pair, minimiseLine, symbolLine, ofKind, fits, sum, insert, Answer, accepted, refused}
+use Rattle.aspif_lines.specs.Text.{textOf, pieces, same, lines, stepped, statement, token, number, digits, decimal, natural, signed, atom, literal, more, opening, bodyCount, ruleLine, pair, minimiseLine, symbolLine, ofKind, fits, sum, insert, Answer, accepted, refused}
 
 -- ---- `plan.aspif`
 

@@ -13,10 +13,10 @@ use borrow.Author.Tests.{eq-eqb, ne-eqb, eqb-true, lt-ltb, le-ltb}
 use Rattle.asp.specs.Sets.{pick}
 use Rattle.asp.specs.Program.{highest}
 use Rattle.asp.specs.Tables.{span}
-use Rattle.aspif.specs.Text.{both, next, nil, same, header, line, pieces, headed, opened, lines, textOf, Reading, Answer, refused, accepted, sum}
-use Rattle.aspif.specs.Seen.{follow, bytesAt}
+use Rattle.aspif_lines.specs.Text.{both, next, nil, same, header, line, pieces, headed, opened, lines, textOf, Reading, Answer, refused, accepted, sum}
+use Rattle.aspif_lines.specs.Seen.{follow, bytesAt}
 use Rattle.aspif.specs.Store.{Lists, Sized, readingOf, Sound, Within, RulesSound, SymbolsSound, noCounts}
-use Rattle.aspif.proofs.Tokens.{lt-or-le}
+use Rattle.aspif_lines.proofs.Tokens.{lt-or-le}
 use Rattle.aspif.proofs.Onwards.{pieces-some}
 
 pub same-true : (k l : List ℕ) → same k l ≡ true → k ≡ l

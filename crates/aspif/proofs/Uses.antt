@@ -10,7 +10,7 @@ use lib.IntN.{pos, natAbs}
 use Rattle.asp.specs.Sets.{In}
 use Rattle.asp.specs.Program.{Entry, All, LiteralIn}
 use Rattle.asp.specs.Tables.{span, entryAt}
-use Rattle.aspif.specs.Seen.{bytesAt}
+use Rattle.aspif_lines.specs.Seen.{bytesAt}
 use Rattle.aspif.specs.Store.{storedText, WellFormed}
 use Rattle.aspif.specs.declared.text.Stored.{Stored}
 

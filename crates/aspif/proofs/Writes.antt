@@ -8,11 +8,11 @@ use lib.ListN.{length, getD, drop, set, length-append, length-drop}
 use lib.Seq.{drop-cons}
 use borrow.Author.Tests.{lt-ltb, le-ltb}
 use Rattle.asp.specs.Tables.{span}
-use Rattle.aspif.specs.Seen.{bytesAt}
+use Rattle.aspif_lines.specs.Seen.{bytesAt}
 use Rattle.aspif.specs.Write.{writtenOf, bufferOf}
 use Rattle.aspif.specs.declared.write.Written.{Written}
 use Rattle.aspif.specs.declared.write.Written.the-variants.{Length, Short}
-use Rattle.aspif.proofs.Spans.{span-snoc, span-length}
+use Rattle.aspif_lines.proofs.Spans.{span-snoc, span-length}
 
 set-at : (xs ys : List ℕ) (y v : ℕ) → set (xs ++ (y ∷ ys)) (length xs) v ≡ xs ++ (v ∷ ys)
 set-at [] ys y v = refl

@@ -1,4 +1,2 @@
-pub mod Text
-pub mod Seen
 pub mod Store
 pub mod Write

@@ -10,8 +10,8 @@ use lib.Signed.{ltZ}
 use Rattle.asp.specs.Sets.{pick}
 use Rattle.asp.specs.Program.{Rule, Entry, Symbol, Program, highest, ruleAtoms, atoms, All, ProgramIn}
 use Rattle.asp.specs.Tables.{span, literalsAt, rowAt, rulesOf, entriesOf, symbolsOf, Tables, programOf, Formed}
-use Rattle.aspif.specs.Text.{Read, got, bad, nil, ruleLine, Minimise, minimiseLine, symbolLine, Reading, insert, sum, ruleSize, conditionSize, nameSize, limits, Step, stop, last, goes, Answer, accepted, refused, lines, pieces, none}
-use Rattle.aspif.specs.Seen.{bytesAt}
+use Rattle.aspif_lines.specs.Text.{Read, got, bad, nil, ruleLine, Minimise, minimiseLine, symbolLine, Reading, insert, sum, ruleSize, conditionSize, nameSize, limits, Step, stop, last, goes, Answer, accepted, refused, lines, pieces, none}
+use Rattle.aspif_lines.specs.Seen.{bytesAt}
 use Rattle.aspif.specs.declared.table.Counts.{Counts}
 use Rattle.aspif.specs.declared.add.Turn.{Turn}
 use Rattle.aspif.specs.declared.add.Turn.the-variants.{Stop, Last, Goes}

@@ -1,21 +1,21 @@
 // One statement into the tables.
-use super::field::is_ended;
-use super::minimise::MinimiseLine;
-use super::minimise::read_minimise;
-use super::rule::RuleLine;
-use super::rule::read_rule;
-use super::symbol::SymbolLine;
-use super::symbol::read_symbol;
 use super::table::Counts;
 use super::table::flag;
 use super::table::insert_level;
 use super::table::push_row;
+use aspif_lines::field::is_ended;
+use aspif_lines::minimise::MinimiseLine;
+use aspif_lines::minimise::read_minimise;
+use aspif_lines::rule::RuleLine;
+use aspif_lines::rule::read_rule;
+use aspif_lines::symbol::SymbolLine;
+use aspif_lines::symbol::read_symbol;
 ghost use mathlib.Core.Path.{_≡_};
 ghost use Prim.Native.Nat.{ℕ, _+_, _*_, _<_, _≤_};
 ghost use lib.ListN.{length, drop};
 ghost use lib.IntN.{ℤ, pos};
 ghost use Rattle.asp.specs.Tables.{literalsAt};
-ghost use Rattle.aspif.specs.Seen.{bytesAt};
+ghost use Rattle.aspif_lines.specs.Seen.{bytesAt};
 ghost use Rattle.aspif.specs.Store.{Within, RulesSound, SymbolsSound, Descending, AddedRule, AddedMinimise, AddedSymbol, otherTurn};
 
 // What a line leads to: a refusal, the end, or the tables with its statement.
@@ -29,8 +29,8 @@ pub enum Turn {
 pub fn add_rule(
     s: &[u8],
     at: usize,
-    pool: &mut [i32],
-    rules: &mut [u16],
+    pool: &mut [i32; 18432],
+    rules: &mut [u16; 8196],
     n: Counts,
     end: usize,
 ) -> Turn
@@ -70,9 +70,9 @@ pub fn add_rule(
 pub fn add_minimise(
     s: &[u8],
     at: usize,
-    priorities: &mut [i32],
-    literals: &mut [i32],
-    weights: &mut [u32],
+    priorities: &mut [i32; 1536],
+    literals: &mut [i32; 1536],
+    weights: &mut [u32; 1536],
     levels: &mut [i32],
     n: Counts,
     end: usize,
@@ -112,8 +112,8 @@ pub fn add_symbol<'a>(
     s: &'a [u8],
     at: usize,
     text: &'a [u8],
-    conditions: &mut [i32],
-    symbols: &mut [u16],
+    conditions: &mut [i32; 3072],
+    symbols: &mut [u16; 2052],
     n: Counts,
     end: usize,
 ) -> Turn

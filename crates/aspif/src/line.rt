@@ -4,16 +4,16 @@ use super::add::add_minimise;
 use super::add::add_other;
 use super::add::add_rule;
 use super::add::add_symbol;
-use super::field::Number;
-use super::field::code_of;
-use super::field::read_number;
 use super::table::Counts;
+use aspif_lines::field::Number;
+use aspif_lines::field::code_of;
+use aspif_lines::field::read_number;
 ghost use mathlib.Core.Path.{_≡_};
 ghost use mathlib.Core.List.{_∷_, _++_};
 ghost use Prim.Native.Nat.{ℕ, _+_, _-_, _<_, _≤_};
 ghost use lib.ListN.{length, take, drop};
-ghost use Rattle.aspif.specs.Text.{pieces, line, stepped};
-ghost use Rattle.aspif.specs.Seen.{follow, bytesAt, Kept};
+ghost use Rattle.aspif_lines.specs.Text.{pieces, line, stepped};
+ghost use Rattle.aspif_lines.specs.Seen.{follow, bytesAt, Kept};
 ghost use Rattle.aspif.specs.Store.{lists, Sound, Within, readingOf, seenTurn, TurnAfter};
 
 // The position of the next byte 10, or of the end.
@@ -50,15 +50,15 @@ pub fn append_line(text: &mut [u8], used: usize, s: &[u8]) -> usize
 // A line, without its byte 10. It is stored first, since a symbol's name is a part of the stored text; a comment leaves the text at its old length.
 pub fn take_line(
     s: &[u8],
-    text: &mut [u8],
-    pool: &mut [i32],
-    rules: &mut [u16],
-    priorities: &mut [i32],
-    literals: &mut [i32],
-    weights: &mut [u32],
-    levels: &mut [i32],
-    conditions: &mut [i32],
-    symbols: &mut [u16],
+    text: &mut [u8; 65537],
+    pool: &mut [i32; 18432],
+    rules: &mut [u16; 8196],
+    priorities: &mut [i32; 1536],
+    literals: &mut [i32; 1536],
+    weights: &mut [u32; 1536],
+    levels: &mut [i32; 9],
+    conditions: &mut [i32; 3072],
+    symbols: &mut [u16; 2052],
     n: Counts,
 ) -> Turn
     requires { ⌜ Sound (lists (now text) (now pool) (now rules) (now priorities) (now literals) (now weights) (now levels) (now conditions) (now symbols)) n × Within n × (n .text + length (now s) ≤ 65536) ⌝ }

@@ -8,7 +8,7 @@ use super::table::fits;
 ghost use mathlib.Core.Path.{_≡_};
 ghost use Prim.Native.Nat.{ℕ, _+_, _<_, _≤_};
 ghost use lib.ListN.{length, drop};
-ghost use Rattle.aspif.specs.Text.{same, header, textOf, lines, pieces};
+ghost use Rattle.aspif_lines.specs.Text.{same, header, textOf, lines, pieces};
 ghost use Rattle.aspif.specs.Store.{lists, Sized, Sound, Within, readingOf, onwardOf, seenOnward, OnwardAfter, seenVerdict, VerdictAfter, noCounts, countsOf, answerFor, answerOf, StoredAfter};
 
 // What one line leads to: a refusal on it or on the next, the end, or the next line.
@@ -57,15 +57,15 @@ fn after_line(t: Turn, end: usize, length: usize) -> Onward
 fn one_line(
     s: &[u8],
     at: usize,
-    text: &mut [u8],
-    pool: &mut [i32],
-    rules: &mut [u16],
-    priorities: &mut [i32],
-    literals: &mut [i32],
-    weights: &mut [u32],
-    levels: &mut [i32],
-    conditions: &mut [i32],
-    symbols: &mut [u16],
+    text: &mut [u8; 65537],
+    pool: &mut [i32; 18432],
+    rules: &mut [u16; 8196],
+    priorities: &mut [i32; 1536],
+    literals: &mut [i32; 1536],
+    weights: &mut [u32; 1536],
+    levels: &mut [i32; 9],
+    conditions: &mut [i32; 3072],
+    symbols: &mut [u16; 2052],
     n: Counts,
 ) -> Onward
     requires { ⌜ Sound (lists (now text) (now pool) (now rules) (now priorities) (now literals) (now weights) (now levels) (now conditions) (now symbols)) n × Within n × (n .text ≤ at) × (at ≤ length (now s)) × (length (now s) ≤ 65536) ⌝ }
@@ -100,15 +100,15 @@ pub enum Verdict {
 fn read_lines(
     s: &[u8],
     from: usize,
-    text: &mut [u8],
-    pool: &mut [i32],
-    rules: &mut [u16],
-    priorities: &mut [i32],
-    literals: &mut [i32],
-    weights: &mut [u32],
-    levels: &mut [i32],
-    conditions: &mut [i32],
-    symbols: &mut [u16],
+    text: &mut [u8; 65537],
+    pool: &mut [i32; 18432],
+    rules: &mut [u16; 8196],
+    priorities: &mut [i32; 1536],
+    literals: &mut [i32; 1536],
+    weights: &mut [u32; 1536],
+    levels: &mut [i32; 9],
+    conditions: &mut [i32; 3072],
+    symbols: &mut [u16; 2052],
     first: Counts,
 ) -> Verdict
     requires { ⌜ Sound (lists (now text) (now pool) (now rules) (now priorities) (now literals) (now weights) (now levels) (now conditions) (now symbols)) first × Within first × (first .text ≤ from) × (2 ≤ from) × (from ≤ length (now s)) × (length (now s) ≤ 65536) ⌝ }
@@ -196,15 +196,15 @@ fn no_counts(used: usize) -> Counts
 // The whole text into the tables.
 fn read_text(
     s: &[u8],
-    text: &mut [u8],
-    pool: &mut [i32],
-    rules: &mut [u16],
-    priorities: &mut [i32],
-    literals: &mut [i32],
-    weights: &mut [u32],
-    levels: &mut [i32],
-    conditions: &mut [i32],
-    symbols: &mut [u16],
+    text: &mut [u8; 65537],
+    pool: &mut [i32; 18432],
+    rules: &mut [u16; 8196],
+    priorities: &mut [i32; 1536],
+    literals: &mut [i32; 1536],
+    weights: &mut [u32; 1536],
+    levels: &mut [i32; 9],
+    conditions: &mut [i32; 3072],
+    symbols: &mut [u16; 2052],
 ) -> Verdict
     requires { ⌜ Sized (lists (now text) (now pool) (now rules) (now priorities) (now literals) (now weights) (now levels) (now conditions) (now symbols)) ⌝ }
     ensures { λ r. ⌜ (seenVerdict (lists (now (text .exit)) (now (pool .exit)) (now (rules .exit)) (now (priorities .exit)) (now (literals .exit)) (now (weights .exit)) (now (levels .exit)) (now (conditions .exit)) (now (symbols .exit))) r ≡ textOf (now (s .entry))) × VerdictAfter (lists (now (text .exit)) (now (pool .exit)) (now (rules .exit)) (now (priorities .exit)) (now (literals .exit)) (now (weights .exit)) (now (levels .exit)) (now (conditions .exit)) (now (symbols .exit))) r ⌝ }

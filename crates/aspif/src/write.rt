@@ -2,7 +2,7 @@
 ghost use mathlib.Core.Path.{_≡_};
 ghost use Prim.Native.Nat.{ℕ, _+_, _<_, _≤_};
 ghost use lib.ListN.{length};
-ghost use Rattle.aspif.specs.Seen.{bytesAt};
+ghost use Rattle.aspif_lines.specs.Seen.{bytesAt};
 ghost use Rattle.aspif.specs.Write.{writtenOf, bufferOf};
 
 // The length of what was written; or refusal 8, with the length that is needed.

@@ -1,10 +1,10 @@
 // A number that a user writes: decimal, with no leading zero, from 0 to 4,294,967,295.
-use aspif::token::byte_at;
+use aspif_lines::token::byte_at;
 ghost use mathlib.Core.Bool.{true};
 ghost use mathlib.Core.Path.{_≡_};
 ghost use Prim.Native.Nat.{ℕ, _+_, _-_, _*_, _^_, _<_, _≤_};
 ghost use lib.ListN.{length};
-ghost use Rattle.aspif.specs.Text.{isDigit};
+ghost use Rattle.aspif_lines.specs.Text.{isDigit};
 ghost use Rattle.console.specs.Number.{numberOf, inRange, allDigits, valueOf};
 
 pub enum Number {

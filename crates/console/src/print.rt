@@ -46,6 +46,29 @@ pub fn figures(given: bool, figures: [u64; 8], k: usize) {
     }
 }
 
+// A priority, with its sign.
+fn priority(p: i32) {
+    text(b" ");
+    if p < 0 {
+        text(b"-");
+        number((0 - (p as i64)) as u64);
+        return;
+    }
+    number(p as u64);
+}
+
+// The first k priorities, each after a space.
+pub fn priorities(ps: [i32; 9], k: usize) {
+    let mut i: usize = 0;
+    while i < 9 {
+        if k <= i {
+            return;
+        }
+        priority(ps[i]);
+        i += 1;
+    }
+}
+
 // "A refused load prints only `refused 2 at line 3`, with its own numbers."
 pub fn refused_at(code: u32, at: usize) {
     text(b"refused ");

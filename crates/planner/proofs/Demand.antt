@@ -13,10 +13,10 @@ use Rattle.asp.specs.Sets.{Set}
 use Rattle.asp.specs.Program.{Program, Entry, All, atoms}
 use Rattle.asp.specs.Stable.{Stable}
 use Rattle.asp.specs.Cost.{weight, W, costs, NoDearer}
-use Rattle.aspif.specs.Text.{Answer, accepted, textOf}
+use Rattle.aspif_lines.specs.Text.{Answer, accepted, textOf}
 use Rattle.aspif.specs.Store.{storedProgram, storedText, WellFormed}
 use Rattle.aspif.specs.declared.text.Stored.{Stored}
-use Rattle.aspif.proofs.Spans.{append-nil, span-length}
+use Rattle.aspif_lines.proofs.Spans.{append-nil, span-length}
 use Rattle.optimizer.specs.declared.state.Phase.the-variants.{Optimum}
 use Rattle.optimizer.specs.declared.state.Search.{Search}
 use Rattle.optimizer.specs.Source.{Source}

@@ -11,11 +11,11 @@ use lib.Seq.{drop-cons, getD-drop}
 use borrow.Author.Tests.{lt-ltb, le-ltb}
 use Rattle.asp.specs.Sets.{pick}
 use Rattle.asp.specs.Tables.{span, rowAt}
-use Rattle.aspif.specs.Seen.{bytesAt}
+use Rattle.aspif_lines.specs.Seen.{bytesAt}
 use Rattle.aspif.specs.Write.{writtenOf, bufferOf}
 use Rattle.aspif.specs.declared.write.Written.{Written}
 use Rattle.aspif.specs.declared.write.Written.the-variants as written
-use Rattle.aspif.proofs.Spans.{span-snoc, span-length, span-shift}
+use Rattle.aspif_lines.proofs.Spans.{span-snoc, span-length, span-shift}
 use Rattle.aspif.specs.Store.{storedText}
 use Rattle.optimizer.specs.Facts.{hasModel, bestIn}
 use Rattle.planner.specs.declared.service.Service.{Service}

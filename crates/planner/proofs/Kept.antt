@@ -4,7 +4,7 @@ use mathlib.Core.Bool.{Bool, true, false, true≢false}
 use mathlib.Core.List.{List}
 use Prim.Native.Nat.{ℕ, _+_}
 use Rattle.asp.specs.Sets.{pick}
-use Rattle.aspif.specs.Text.{Answer, accepted, refused}
+use Rattle.aspif_lines.specs.Text.{Answer, accepted, refused}
 use Rattle.aspif.specs.Store.{WellFormed}
 use Rattle.aspif.specs.declared.text.Stored.{Stored}
 use Rattle.optimizer.specs.declared.state.Search.{Search}

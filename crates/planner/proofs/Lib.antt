@@ -2,6 +2,7 @@ pub mod Fresh
 pub mod Answers
 pub mod Link
 pub mod Filling
+pub mod Parts
 pub mod Moving
 pub mod Counting
 pub mod Symbols

@@ -15,7 +15,7 @@ use Rattle.asp.specs.Paying.{SymbolFormed}
 use Rattle.asp.proofs.Spans.{map-span, all-map, span-at}
 use Rattle.aspif.specs.Store.{storedProgram, WellFormed}
 use Rattle.aspif.specs.declared.text.Stored.{Stored}
-use Rattle.aspif.proofs.Spans.{span-same}
+use Rattle.aspif_lines.proofs.Spans.{span-same}
 use Rattle.optimizer.specs.Source.{many, entriesIn, levelAt, levelsIn, rulesIn, FormedLevels, FormedSource}
 use Rattle.optimizer.specs.Facts.{costsIn, weightIn}
 use Rattle.planner.specs.Held.{sourceOf}

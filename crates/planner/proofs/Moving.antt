@@ -8,7 +8,7 @@ use lib.IntN.{ℤ}
 use lib.ListN.{take}
 use Rattle.asp.specs.Sets.{pick}
 use Rattle.aspif.specs.Store.{storedProgram, WellFormed, answerOf, StoredAfter}
-use Rattle.aspif.specs.Text.{Answer}
+use Rattle.aspif_lines.specs.Text.{Answer}
 use Rattle.aspif.specs.declared.text.Stored.{Stored}
 use Rattle.aspif.specs.declared.text.Loading.{Loading}
 use Rattle.aspif.specs.declared.text.Loading.the-variants.{Accepted, RefusedAt}

@@ -8,7 +8,7 @@ use Prim.Native.Nat.{ℕ, _+_}
 use native.Mathlib.Omega.{arith}
 use Rattle.asp.specs.Sets.{pick}
 use Rattle.asp.specs.Program.{Program}
-use Rattle.aspif.specs.Text.{Answer, accepted, refused, textOf}
+use Rattle.aspif_lines.specs.Text.{Answer, accepted, refused, textOf}
 use Rattle.aspif.specs.declared.text.Stored.{Stored}
 use Rattle.optimizer.specs.declared.state.Search.{Search}
 use Rattle.optimizer.specs.Finish.{isRunning, freshSearch, advanceOf, advancesOf, madeBy}

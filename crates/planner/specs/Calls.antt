@@ -12,8 +12,8 @@ use Rattle.asp.specs.Sets.{Set, pick}
 use Rattle.asp.specs.Program.{Program}
 use Rattle.asp.specs.Stable.{shown}
 use Rattle.asp.specs.Tables.{span, Row}
-use Rattle.aspif.specs.Text.{Answer, accepted, refused}
-use Rattle.aspif.specs.Seen.{bytesAt}
+use Rattle.aspif_lines.specs.Text.{Answer, accepted, refused}
+use Rattle.aspif_lines.specs.Seen.{bytesAt}
 use Rattle.aspif.specs.Store.{storedProgram, storedText, WellFormed}
 use Rattle.aspif.specs.Write.{bufferOf}
 use Rattle.aspif.specs.declared.text.Stored.{Stored}

@@ -10,7 +10,7 @@ use Rattle.asp.specs.Sets.{Set}
 use Rattle.asp.specs.Program.{Program, Entry, Symbol, All, atoms}
 use Rattle.asp.specs.Stable.{Stable, shown}
 use Rattle.asp.specs.Cost.{levels, weight, W, costs, NoDearer}
-use Rattle.aspif.specs.Text.{accepted, textOf}
+use Rattle.aspif_lines.specs.Text.{accepted, textOf}
 use Rattle.planner.specs.declared.service.Service.{Service}
 use Rattle.planner.specs.declared.service.Status.{Status}
 use Rattle.planner.specs.declared.service.Status.the-variants as status

@@ -5,7 +5,7 @@ use mathlib.Core.List.{List, [], _∷_}
 use mathlib.Core.Option.{Option, none, some}
 use Prim.Native.Nat.{ℕ, _+_}
 use Rattle.asp.specs.Sets.{pick}
-use Rattle.aspif.specs.Text.{Answer, accepted, refused, textOf}
+use Rattle.aspif_lines.specs.Text.{Answer, accepted, refused, textOf}
 use Rattle.planner.specs.declared.service.Service.{Service}
 use Rattle.planner.specs.declared.service.Status.{Status}
 use Rattle.planner.specs.declared.service.Status.the-variants as status

@@ -1,7 +1,7 @@
 // Load: a text in place of what was loaded.
 use crate::service::Service;
 use aspif::text::Loading;
-ghost use Rattle.aspif.specs.Text.{textOf};
+ghost use Rattle.aspif_lines.specs.Text.{textOf};
 ghost use Rattle.planner.specs.Calls.{outcome, saysLoad, AfterLoad};
 
 pub struct Loaded {

@@ -1,4 +1,4 @@
-use Rattle.aspif.specs.Text.{textOf}
+use Rattle.aspif_lines.specs.Text.{textOf}
 use Rattle.planner.specs.Calls.{saysLoad}
 use Rattle.planner.proofs.Kept.{sound-fresh, sound-load}
 use borrow.Author.Needs.{needs}

@@ -4,8 +4,8 @@ use Prim.Native.Nat.{ℕ, _+_, _-_, _≤_, _<_}
 use native.Mathlib.Omega.{arith}
 use lib.ListN.{length, getD, set, length-set}
 use lib.Seq.{getD-set-same, getD-set-other}
-use Rattle.aspif.specs.Seen.{Kept}
-use Rattle.aspif.proofs.Spans.{kept-refl, kept-set}
+use Rattle.aspif_lines.specs.Seen.{Kept}
+use Rattle.aspif_lines.proofs.Spans.{kept-refl, kept-set}
 use Rattle.aspif.proofs.Pieces.{copied-more, appended, appended-part}
 use borrow.Author.Needs.{needs}
 use Rattle.aspif.proofs.line.append_line.Statement.{statement}

@@ -1,7 +1,7 @@
 -- `aspif::line::take_line` meets its contract. Assumes nothing.
 use mathlib.Core.Path.{sym, ap, _∙_}
 use native.Mathlib.Omega.{arith}
-use Rattle.aspif.specs.Seen.{seenNumber}
+use Rattle.aspif_lines.specs.Seen.{seenNumber}
 use Rattle.aspif.proofs.Lines.{refused-line, symbol-ready, rule-leads, minimise-leads, symbol-leads, other-leads}
 use borrow.Author.Needs.{needs}
 use Rattle.aspif.proofs.line.take_line.Statement.{statement}
@@ -22,107 +22,68 @@ enum-told c = search needs
 code-of-requires : tie.Need-code-of-requires
 code-of-requires c κs = search needs
 
-same-length : tie.Need-same-length
-same-length c = search needs
-
 returns : tie.Need-returns
 returns c =
-    let pre = c .before .before .before .before .before .before .before .before .before .before .before .before .before .pre in
-    let args = c .before .before .before .before .before .before .before .before .before .before .before .before .before .args in
-    let append-line = c .before .before .before .before .before .before .append-line in
+    let pre = c .before .before .before .before .before .before .before .pre in
+    let args = c .before .before .before .before .before .before .before .args in
+    let append-line = c .before .before .before .before .append-line in
     let read-number = c .before .before .before .read-number in
     (rw (c .code-of .ensures, c .before .enum-told .given .1) (refused-line _ _ _ _ _ (pre .0) (append-line .ensures .0) (append-line .ensures .1) (append-line .ensures .2) _ (sym (read-number .ensures .0) ∙ ap (seenNumber (args .s .now)) (c .before .enum-told .given .1))), tt)
 
 add-rule-requires : tie.Need-add-rule-requires
 add-rule-requires c κs = search needs
 
-same-length-2 : tie.Need-same-length-2
-same-length-2 c = search needs
-
-same-length-3 : tie.Need-same-length-3
-same-length-3 c = search needs
-
-same-length-4 : tie.Need-same-length-4
-same-length-4 c = search needs
-
 returns-2 : tie.Need-returns-2
 returns-2 c =
-    let pre = c .before .before .before .before .before .before .before .before .before .before .before .before .before .before .before .before .before .before .before .before .pre in
-    let args = c .before .before .before .before .before .before .before .before .before .before .before .before .before .before .before .before .before .before .before .before .args in
-    let append-line = c .before .before .before .before .before .before .before .before .before .before .before .before .before .append-line in
-    let read-number = c .before .before .before .before .before .before .before .before .before .before .read-number in
-    let k = c .before .before .before .before .before .before .before .before .k in
-    let if1 = c .before .before .before .before .before .before .if1 in
-    let add-rule = c .before .before .before .add-rule in
+    let pre = c .before .before .before .before .before .before .before .before .before .before .before .pre in
+    let args = c .before .before .before .before .before .before .before .before .before .before .before .args in
+    let append-line = c .before .before .before .before .before .before .before .before .append-line in
+    let read-number = c .before .before .before .before .before .before .before .read-number in
+    let k = c .before .before .before .before .before .k in
+    let if1 = c .before .before .before .if1 in
+    let add-rule = c .add-rule in
     rule-leads _ _ _ _ _ (pre .0) (append-line .ensures .0) (append-line .ensures .1) (append-line .ensures .2) _ _ (sym (read-number .ensures .0) ∙ ap (seenNumber (args .s .now)) (k .given .1)) (add-rule .last .1 .1 .0) (add-rule .last .1 .1 .1 .0) (if1 .taken) (add-rule .result) (add-rule .ensures)
 
 add-minimise-requires : tie.Need-add-minimise-requires
 add-minimise-requires c κs = search needs
 
-same-length-5 : tie.Need-same-length-5
-same-length-5 c = search needs
-
-same-length-6 : tie.Need-same-length-6
-same-length-6 c = search needs
-
-same-length-7 : tie.Need-same-length-7
-same-length-7 c = search needs
-
-same-length-8 : tie.Need-same-length-8
-same-length-8 c = search needs
-
-same-length-9 : tie.Need-same-length-9
-same-length-9 c = search needs
-
 returns-3 : tie.Need-returns-3
 returns-3 c =
-    let pre = c .before .before .before .before .before .before .before .before .before .before .before .before .before .before .before .before .before .before .before .before .before .before .before .before .before .pre in
-    let args = c .before .before .before .before .before .before .before .before .before .before .before .before .before .before .before .before .before .before .before .before .before .before .before .before .before .args in
-    let append-line = c .before .before .before .before .before .before .before .before .before .before .before .before .before .before .before .before .before .before .append-line in
-    let read-number = c .before .before .before .before .before .before .before .before .before .before .before .before .before .before .before .read-number in
-    let k = c .before .before .before .before .before .before .before .before .before .before .before .before .before .k in
-    let if2 = c .before .before .before .before .before .before .before .before .before .before .if2 in
-    let add-minimise = c .before .before .before .before .before .add-minimise in
+    let pre = c .before .before .before .before .before .before .before .before .before .before .before .before .before .before .pre in
+    let args = c .before .before .before .before .before .before .before .before .before .before .before .before .before .before .args in
+    let append-line = c .before .before .before .before .before .before .before .before .before .before .before .append-line in
+    let read-number = c .before .before .before .before .before .before .before .before .before .before .read-number in
+    let k = c .before .before .before .before .before .before .before .before .k in
+    let if2 = c .before .before .before .before .before .if2 in
+    let add-minimise = c .add-minimise in
     minimise-leads _ _ _ _ _ (pre .0) (append-line .ensures .0) (append-line .ensures .1) (append-line .ensures .2) _ _ (sym (read-number .ensures .0) ∙ ap (seenNumber (args .s .now)) (k .given .1)) (add-minimise .last .1 .1 .0) (add-minimise .last .1 .1 .1 .0) (add-minimise .last .1 .1 .1 .1 .0) (add-minimise .last .1 .1 .1 .1 .1 .0) (if2 .taken) (add-minimise .result) (add-minimise .ensures)
 
 add-symbol-requires : tie.Need-add-symbol-requires
 add-symbol-requires c κs =
-    let args = c .before .before .before .before .before .before .before .before .before .before .before .before .before .before .before .before .before .before .before .args in
-    let pre = c .before .before .before .before .before .before .before .before .before .before .before .before .before .before .before .before .before .before .before .pre in
-    let append-line = c .before .before .before .before .before .before .before .before .before .before .before .before .append-line in
+    let args = c .before .before .before .before .before .before .before .before .before .before .before .before .before .before .args in
+    let pre = c .before .before .before .before .before .before .before .before .before .before .before .before .before .before .pre in
+    let append-line = c .before .before .before .before .before .before .before .before .before .before .before .append-line in
     (symbol-ready (args .s .now) _ _ _ _ (pre .0) (append-line .ensures .0) (append-line .ensures .1) (append-line .ensures .2), pre .1, append-line .ensures .0, omega (arith, append-line .ensures .0, pre .2), pre .0 .sized .conditions, pre .0 .sized .symbols, append-line .ensures .3)
-
-same-length-10 : tie.Need-same-length-10
-same-length-10 c = search needs
-
-same-length-11 : tie.Need-same-length-11
-same-length-11 c = search needs
-
-same-length-12 : tie.Need-same-length-12
-same-length-12 c = search needs
 
 returns-4 : tie.Need-returns-4
 returns-4 c =
-    let pre = c .before .before .before .before .before .before .before .before .before .before .before .before .before .before .before .before .before .before .before .before .before .before .before .pre in
-    let args = c .before .before .before .before .before .before .before .before .before .before .before .before .before .before .before .before .before .before .before .before .before .before .before .args in
-    let append-line = c .before .before .before .before .before .before .before .before .before .before .before .before .before .before .before .before .append-line in
-    let read-number = c .before .before .before .before .before .before .before .before .before .before .before .before .before .read-number in
-    let k = c .before .before .before .before .before .before .before .before .before .before .before .k in
-    let if3 = c .before .before .before .before .before .before .before .if3 in
-    let add-symbol = c .before .before .before .add-symbol in
+    let pre = c .before .before .before .before .before .before .before .before .before .before .before .before .before .before .before .pre in
+    let args = c .before .before .before .before .before .before .before .before .before .before .before .before .before .before .before .args in
+    let append-line = c .before .before .before .before .before .before .before .before .before .before .before .before .append-line in
+    let read-number = c .before .before .before .before .before .before .before .before .before .before .before .read-number in
+    let k = c .before .before .before .before .before .before .before .before .before .k in
+    let if3 = c .before .before .before .before .before .if3 in
+    let add-symbol = c .add-symbol in
     symbol-leads _ _ _ _ _ (pre .0) (append-line .ensures .0) (append-line .ensures .1) (append-line .ensures .2) _ _ (sym (read-number .ensures .0) ∙ ap (seenNumber (args .s .now)) (k .given .1)) (add-symbol .last .1 .1 .1 .0) (add-symbol .last .1 .1 .1 .1 .0) (if3 .taken) (add-symbol .result) (add-symbol .ensures)
 
 add-other-requires : tie.Need-add-other-requires
 add-other-requires c κs = search needs
 
-same-length-13 : tie.Need-same-length-13
-same-length-13 c = search needs
-
 returns-5 : tie.Need-returns-5
 returns-5 c =
-    let pre = c .before .before .before .before .before .before .before .before .before .before .before .before .before .before .before .before .before .pre in
-    let args = c .before .before .before .before .before .before .before .before .before .before .before .before .before .before .before .before .before .args in
-    let append-line = c .before .before .before .before .before .before .before .before .before .before .append-line in
+    let pre = c .before .before .before .before .before .before .before .before .before .before .before .pre in
+    let args = c .before .before .before .before .before .before .before .before .before .before .before .args in
+    let append-line = c .before .before .before .before .before .before .before .before .append-line in
     let read-number = c .before .before .before .before .before .before .before .read-number in
     let k = c .before .before .before .before .before .k in
     let if1 = c .before .before .before .if1 in
@@ -138,25 +99,12 @@ take-line-spec =
     enum-known-k
     enum-told
     code-of-requires
-    same-length
     returns
     add-rule-requires
-    same-length-2
-    same-length-3
-    same-length-4
     returns-2
     add-minimise-requires
-    same-length-5
-    same-length-6
-    same-length-7
-    same-length-8
-    same-length-9
     returns-3
     add-symbol-requires
-    same-length-10
-    same-length-11
-    same-length-12
     returns-4
     add-other-requires
-    same-length-13
     returns-5)

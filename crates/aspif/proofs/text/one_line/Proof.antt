@@ -22,47 +22,20 @@ part-l-end c = search needs
 
 take-line-requires : tie.Need-take-line-requires
 take-line-requires c κs =
-    let pre = c .before .before .before .before .before .before .before .before .before .before .before .before .before .before .before .before .pre in
-    let args = c .before .before .before .before .before .before .before .before .before .before .before .before .before .before .before .before .args in
+    let pre = c .before .before .before .before .before .before .before .before .before .before .before .before .pre in
+    let args = c .before .before .before .before .before .before .before .before .before .before .before .before .args in
     let line-end = c .before .before .before .before .before .before .before .before .before .before .line-end in
     (pre .0, pre .1, omega (arith, short (line-end .result - args .at) (drop (args .at) (args .s .now)), line-end .ensures .0, line-end .ensures .1, pre .2, pre .4))
 
 after-line-requires : tie.Need-after-line-requires
 after-line-requires c κs = search needs
 
-same-length : tie.Need-same-length
-same-length c = search needs
-
-same-length-2 : tie.Need-same-length-2
-same-length-2 c = search needs
-
-same-length-3 : tie.Need-same-length-3
-same-length-3 c = search needs
-
-same-length-4 : tie.Need-same-length-4
-same-length-4 c = search needs
-
-same-length-5 : tie.Need-same-length-5
-same-length-5 c = search needs
-
-same-length-6 : tie.Need-same-length-6
-same-length-6 c = search needs
-
-same-length-7 : tie.Need-same-length-7
-same-length-7 c = search needs
-
-same-length-8 : tie.Need-same-length-8
-same-length-8 c = search needs
-
-same-length-9 : tie.Need-same-length-9
-same-length-9 c = search needs
-
 returns : tie.Need-returns
 returns c =
-    let args = c .before .before .before .before .before .before .before .before .before .before .before .before .before .before .before .before .before .before .before .before .before .before .before .before .before .before .before .before .before .before .before .args in
-    let pre = c .before .before .before .before .before .before .before .before .before .before .before .before .before .before .before .before .before .before .before .before .before .before .before .before .before .before .before .before .before .before .before .pre in
-    let line-end = c .before .before .before .before .before .before .before .before .before .before .before .before .before .before .before .before .before .before .before .before .before .before .before .before .before .line-end in
-    let take-line = c .before .before .before .before .before .before .before .before .before .before .before .before .before .before .take-line in
+    let args = c .before .before .before .before .before .before .before .before .before .before .before .before .before .before .args in
+    let pre = c .before .before .before .before .before .before .before .before .before .before .before .before .before .before .pre in
+    let line-end = c .before .before .before .before .before .before .before .before .before .before .before .before .line-end in
+    let take-line = c .before .take-line in
     let l = take (line-end .result - args .at) (drop (args .at) (args .s .now)) in
     rw (c .after-line .ensures) (onward-leads (args .s .now) (args .at) (line-end .result) l _ (line-end .ensures .2) (line-end .ensures .1) (lists (take-line .last .1 .0) (take-line .last .1 .1 .0) (take-line .last .1 .1 .1 .0) (take-line .last .1 .1 .1 .1 .0) (take-line .last .1 .1 .1 .1 .1 .0) (take-line .last .1 .1 .1 .1 .1 .1 .0) (take-line .last .1 .1 .1 .1 .1 .1 .1 .0) (take-line .last .1 .1 .1 .1 .1 .1 .1 .1 .0) (take-line .last .1 .1 .1 .1 .1 .1 .1 .1 .1 .0)) (take-line .result) _ (line-end .ensures .0) (omega (arith, short (line-end .result - args .at) (drop (args .at) (args .s .now)), line-end .ensures .0, pre .2)) (take-line .ensures .0) (take-line .ensures .1))
 
@@ -76,13 +49,4 @@ one-line-spec =
     part-l-end
     take-line-requires
     after-line-requires
-    same-length
-    same-length-2
-    same-length-3
-    same-length-4
-    same-length-5
-    same-length-6
-    same-length-7
-    same-length-8
-    same-length-9
     returns)

@@ -3,7 +3,7 @@ use mathlib.Core.Path.{sym, ap, _∙_}
 use Prim.Native.Nat.{_+_, _-_}
 use native.Mathlib.Omega.{arith}
 use lib.ListN.{length, take, drop}
-use Rattle.aspif.specs.Text.{lines, pieces, Reading, header}
+use Rattle.aspif_lines.specs.Text.{lines, pieces, Reading, header}
 use Rattle.aspif.specs.Store.{lists, Sized, readingOf, noCounts}
 use Rattle.aspif.specs.declared.table.Counts.{Counts}
 use Rattle.aspif.proofs.Onwards.{short}
@@ -13,7 +13,7 @@ use Rattle.aspif.proofs.text.read_text.Statement.{statement}
 use Rattle.aspif.proofs.text.read_text.Tie as tie
 
 returns : tie.Need-returns
-returns c = (text-long (c .before .before .before .before .before .before .args .s .now) (c .if1 .taken), tt)
+returns c = (text-long (c .before .before .args .s .now) (c .if1 .taken), tt)
 
 line-end-requires : tie.Need-line-end-requires
 line-end-requires c κs = search needs
@@ -32,7 +32,7 @@ is-header-requires c κs = search needs
 
 returns-2 : tie.Need-returns-2
 returns-2 c =
-    let args = c .before .before .before .before .before .before .before .before .before .before .before .args in
+    let args = c .before .before .before .before .before .before .before .args in
     let if1 = c .before .before .before .before .before .if1 in
     let line-end = c .before .before .before .before .line-end in
     let is-header = c .before .before .is-header in
@@ -49,14 +49,14 @@ add-from c = search needs
 
 read-lines-requires : tie.Need-read-lines-requires
 read-lines-requires c κs =
-    let args = c .before .before .before .before .before .before .before .before .before .before .before .before .before .before .before .before .before .before .before .before .before .before .before .before .before .args in
-    let pre = c .before .before .before .before .before .before .before .before .before .before .before .before .before .before .before .before .before .before .before .before .before .before .before .before .before .pre in
-    let if1 = c .before .before .before .before .before .before .before .before .before .before .before .before .before .before .before .before .before .before .before .if1 in
-    let line-end = c .before .before .before .before .before .before .before .before .before .before .before .before .before .before .before .before .before .before .line-end in
-    let is-header = c .before .before .before .before .before .before .before .before .before .before .before .before .before .before .before .before .is-header in
-    let if2 = c .before .before .before .before .before .before .before .before .before .before .before .before .before .before .before .if2 in
-    let if3 = c .before .before .before .before .before .before .before .before .before .before .before .before .before .before .if3 in
-    let append-line = c .before .before .before .before .before .before .before .before .before .before .before .before .append-line in
+    let args = c .before .before .before .before .before .before .before .before .before .before .before .before .before .before .before .before .before .before .before .args in
+    let pre = c .before .before .before .before .before .before .before .before .before .before .before .before .before .before .before .before .before .before .before .pre in
+    let if1 = c .before .before .before .before .before .before .before .before .before .before .before .before .before .before .before .before .before .if1 in
+    let line-end = c .before .before .before .before .before .before .before .before .before .before .before .before .before .before .before .before .line-end in
+    let is-header = c .before .before .before .before .before .before .before .before .before .before .before .before .before .before .is-header in
+    let if2 = c .before .before .before .before .before .before .before .before .before .before .before .before .before .if2 in
+    let if3 = c .before .before .before .before .before .before .before .before .before .before .before .before .if3 in
+    let append-line = c .before .before .before .before .before .before .before .before .before .before .append-line in
     let no-counts = c .before .before .before .before .before .before .before .before .before .no-counts in
     let t = (lists (append-line .last .0) (args .pool .now) (args .rules .now) (args .priorities .now) (args .literals .now) (args .weights .now) (args .levels .now) (args .conditions .now) (args .symbols .now)) in
     let z = ap length (same-true (take (line-end .result - 0) (args .s .now)) header (sym (is-header .ensures) ∙ if2 .taken)) in
@@ -71,44 +71,17 @@ read-lines-requires c κs =
       if1 .left,
     )
 
-same-length : tie.Need-same-length
-same-length c = search needs
-
-same-length-2 : tie.Need-same-length-2
-same-length-2 c = search needs
-
-same-length-3 : tie.Need-same-length-3
-same-length-3 c = search needs
-
-same-length-4 : tie.Need-same-length-4
-same-length-4 c = search needs
-
-same-length-5 : tie.Need-same-length-5
-same-length-5 c = search needs
-
-same-length-6 : tie.Need-same-length-6
-same-length-6 c = search needs
-
-same-length-7 : tie.Need-same-length-7
-same-length-7 c = search needs
-
-same-length-8 : tie.Need-same-length-8
-same-length-8 c = search needs
-
-same-length-9 : tie.Need-same-length-9
-same-length-9 c = search needs
-
 returns-3 : tie.Need-returns-3
 returns-3 c =
-    let args = c .before .before .before .before .before .before .before .before .before .before .before .before .before .before .before .before .before .before .before .before .before .before .before .before .before .before .before .before .before .before .before .before .before .before .before .before .before .before .before .args in
-    let if1 = c .before .before .before .before .before .before .before .before .before .before .before .before .before .before .before .before .before .before .before .before .before .before .before .before .before .before .before .before .before .before .before .before .before .if1 in
-    let line-end = c .before .before .before .before .before .before .before .before .before .before .before .before .before .before .before .before .before .before .before .before .before .before .before .before .before .before .before .before .before .before .before .before .line-end in
-    let is-header = c .before .before .before .before .before .before .before .before .before .before .before .before .before .before .before .before .before .before .before .before .before .before .before .before .before .before .before .before .before .before .is-header in
-    let if2 = c .before .before .before .before .before .before .before .before .before .before .before .before .before .before .before .before .before .before .before .before .before .before .before .before .before .before .before .before .before .if2 in
-    let if3 = c .before .before .before .before .before .before .before .before .before .before .before .before .before .before .before .before .before .before .before .before .before .before .before .before .before .before .before .before .if3 in
-    let append-line = c .before .before .before .before .before .before .before .before .before .before .before .before .before .before .before .before .before .before .before .before .before .before .before .before .before .before .append-line in
-    let no-counts = c .before .before .before .before .before .before .before .before .before .before .before .before .before .before .before .before .before .before .before .before .before .before .before .no-counts in
-    let read-lines = c .before .before .before .before .before .before .before .before .before .before .before .before .before .read-lines in
+    let args = c .before .before .before .before .before .before .before .before .before .before .before .before .before .before .before .before .before .before .before .before .args in
+    let if1 = c .before .before .before .before .before .before .before .before .before .before .before .before .before .before .before .before .before .before .if1 in
+    let line-end = c .before .before .before .before .before .before .before .before .before .before .before .before .before .before .before .before .before .line-end in
+    let is-header = c .before .before .before .before .before .before .before .before .before .before .before .before .before .before .before .is-header in
+    let if2 = c .before .before .before .before .before .before .before .before .before .before .before .before .before .before .if2 in
+    let if3 = c .before .before .before .before .before .before .before .before .before .before .before .before .before .if3 in
+    let append-line = c .before .before .before .before .before .before .before .before .before .before .before .append-line in
+    let no-counts = c .before .before .before .before .before .before .before .before .before .before .no-counts in
+    let read-lines = c .read-lines in
     let e = same-true (take (line-end .result - 0) (args .s .now)) header (sym (is-header .ensures) ∙ if2 .taken) in
     let p = none-opened (lists (append-line .last .0) (args .pool .now) (args .rules .now) (args .priorities .now) (args .literals .now) (args .weights .now) (args .levels .now) (args .conditions .now) (args .symbols .now)) (append-line .result) (args .text .now) (take (line-end .result - 0) (args .s .now)) e (append-line .ensures .1) in
     let q = ap (λ (n : Counts). readingOf (lists (append-line .last .0) (args .pool .now) (args .rules .now) (args .priorities .now) (args .literals .now) (args .weights .now) (args .levels .now) (args .conditions .now) (args .symbols .now)) n) (no-counts .ensures) ∙ p in
@@ -116,7 +89,7 @@ returns-3 c =
 
 returns-4 : tie.Need-returns-4
 returns-4 c =
-    let args = c .before .before .before .before .before .before .before .before .before .before .args in
+    let args = c .before .before .before .before .before .before .args in
     let if1 = c .before .before .before .before .if1 in
     let line-end = c .before .before .before .line-end in
     (text-wrong (args .s .now) (line-end .result) (take (line-end .result - 0) (args .s .now)) (if1 .left) (line-end .ensures .2) (sym (c .before .is-header .ensures) ∙ c .if2 .left), tt)
@@ -136,14 +109,5 @@ read-text-spec =
     no-counts-requires
     add-from
     read-lines-requires
-    same-length
-    same-length-2
-    same-length-3
-    same-length-4
-    same-length-5
-    same-length-6
-    same-length-7
-    same-length-8
-    same-length-9
     returns-3
     returns-4)

@@ -1,0 +1,4 @@
+pub mod Tokens
+pub mod Signs
+pub mod Spans
+pub mod Heads

@@ -1,0 +1,151 @@
+// `2 p k` and k pairs of literal and weight: minimise at priority p.
+use super::field::Number;
+use super::field::Signed;
+use super::field::code_of;
+use super::field::denial_of;
+use super::field::is_ended;
+use super::field::read_literal;
+use super::field::read_natural;
+use super::field::read_signed_field;
+use super::field::size;
+use super::members::Listed;
+use super::members::higher;
+use super::members::stop_of;
+ghost use mathlib.Core.Path.{_≡_};
+ghost use mathlib.Core.List.{[]};
+ghost use Prim.Native.Nat.{ℕ, _+_, _<_, _≤_};
+ghost use lib.ListN.{length, drop};
+ghost use lib.IntN.{ℤ, pos, natAbs};
+ghost use Rattle.aspif_lines.specs.Text.{more, pair, minimiseLine};
+ghost use Rattle.aspif_lines.specs.Seen.{seenPair, PairSmall, unpairedOf, seenEntries, TopOf, seenMinimise, MinimiseSmall, MinimiseTop, Kept};
+
+// A literal and its weight.
+pub enum Pair {
+    Paired {
+        literal: i32,
+        weight: u32,
+        next: usize,
+    },
+    Unpaired {
+        code: u32,
+    },
+}
+
+fn unpaired_of(n: Pair) -> u32
+    ensures { λ r. ⌜ r ≡ unpairedOf n ⌝ }
+{
+    match n {
+        Pair::Paired {
+            literal: _,
+            weight: _,
+            next: _,
+        } => 2,
+        Pair::Unpaired { code } => code,
+    }
+}
+
+fn read_pair(s: &[u8], at: usize) -> Pair
+    ensures { λ r. ⌜ ((p : ℤ) → seenPair (now (s .entry)) p r ≡ pair p (drop at (now (s .entry)))) × PairSmall r ⌝ }
+{
+    let l = read_literal(s, at);
+    let Signed::Whole { value: z, next: a } = l else {
+        return Pair::Unpaired { code: denial_of(l) };
+    };
+    let n = read_natural(s, a, 0, 1000000);
+    let Number::Value { value: w, next } = n else {
+        return Pair::Unpaired { code: code_of(n) };
+    };
+    Pair::Paired {
+        literal: z,
+        weight: w,
+        next: next,
+    }
+}
+
+// k entries of priority p, stored from `used` on.
+fn read_pairs(
+    s: &[u8],
+    at: usize,
+    p: i32,
+    k: usize,
+    priorities: &mut [i32],
+    literals: &mut [i32],
+    weights: &mut [u32],
+    used: usize,
+    start: usize,
+) -> Listed
+    requires { ⌜ (used + k ≤ length (now priorities)) × (used + k ≤ length (now literals)) × (used + k ≤ length (now weights)) × (natAbs p ≤ 1000) ⌝ }
+    ensures { λ r. ⌜ (seenEntries (now (s .entry)) (now (priorities .exit)) (now (literals .exit)) (now (weights .exit)) used k r ≡ more (pair p) k [] (drop at (now (s .entry)))) × TopOf (now (literals .exit)) used k start r × Kept (pos 0) used (now (priorities .entry)) (now (priorities .exit)) × Kept (pos 0) used (now (literals .entry)) (now (literals .exit)) × Kept 0 used (now (weights .entry)) (now (weights .exit)) ⌝ }
+{
+    let mut a = at;
+    let mut top = start;
+    let mut i: usize = 0;
+    while i < k {
+        let m = read_pair(s, a);
+        let Pair::Paired {
+            literal,
+            weight,
+            next,
+        } = m
+        else {
+            return Listed::Stopped {
+                code: unpaired_of(m),
+            };
+        };
+        let j = used + i;
+        priorities[j] = p;
+        literals[j] = literal;
+        weights[j] = weight;
+        top = higher(top, literal);
+        a = next;
+        i += 1;
+    }
+    Listed::Upto { next: a, top: top }
+}
+
+// A minimise line: its entries are in the tables.
+pub enum MinimiseLine {
+    Minimised {
+        priority: i32,
+        count: usize,
+        top: usize,
+    },
+    Unminimised {
+        code: u32,
+    },
+}
+
+pub fn read_minimise(
+    s: &[u8],
+    at: usize,
+    priorities: &mut [i32; 1536],
+    literals: &mut [i32; 1536],
+    weights: &mut [u32; 1536],
+    used: usize,
+    top: usize,
+) -> MinimiseLine
+    requires { ⌜ (used + 1024 ≤ length (now priorities)) × (used + 1024 ≤ length (now literals)) × (used + 1024 ≤ length (now weights)) ⌝ }
+    ensures { λ r. ⌜ (seenMinimise (now (priorities .exit)) (now (literals .exit)) (now (weights .exit)) used r ≡ minimiseLine (drop at (now (s .entry)))) × MinimiseSmall r × MinimiseTop (now (literals .exit)) used top r × Kept (pos 0) used (now (priorities .entry)) (now (priorities .exit)) × Kept (pos 0) used (now (literals .entry)) (now (literals .exit)) × Kept 0 used (now (weights .entry)) (now (weights .exit)) ⌝ }
+{
+    let f = read_signed_field(s, at, 1000);
+    let Signed::Whole { value: p, next: a } = f else {
+        return MinimiseLine::Unminimised { code: denial_of(f) };
+    };
+    let n = read_natural(s, a, 0, 1024);
+    let Number::Value { value: k, next: b } = n else {
+        return MinimiseLine::Unminimised { code: code_of(n) };
+    };
+    let count = size(k);
+    let l = read_pairs(s, b, p, count, priorities, literals, weights, used, top);
+    let Listed::Upto { next: e, top: t } = l else {
+        return MinimiseLine::Unminimised { code: stop_of(l) };
+    };
+    if is_ended(s, e) {
+        return MinimiseLine::Minimised {
+            priority: p,
+            count: count,
+            top: t,
+        };
+    }
+    MinimiseLine::Unminimised { code: 2 }
+}

@@ -1,0 +1,120 @@
+// `4 m s k literals`: a symbol.
+use super::field::Number;
+use super::field::code_of;
+use super::field::is_ended;
+use super::field::read_natural;
+use super::field::size;
+use super::members::Listed;
+use super::members::read_members;
+use super::members::stop_of;
+use super::token::byte_at;
+ghost use mathlib.Core.Path.{_≡_};
+ghost use mathlib.Core.List.{[]};
+ghost use Prim.Native.Nat.{ℕ, _+_, _<_, _≤_};
+ghost use lib.ListN.{length, drop};
+ghost use lib.IntN.{ℤ, pos};
+ghost use Rattle.aspif_lines.specs.Text.{within, field, more, nameByte, symbolLine};
+ghost use Rattle.aspif_lines.specs.Seen.{seenName, NameIn, unnamedOf, seenSymbol, SymbolSmall, SymbolTop, Kept};
+
+// Where a name ends, or the refusal in it.
+pub enum Name {
+    Until { next: usize },
+    Unnamed { code: u32 },
+}
+
+fn unnamed_of(n: Name) -> u32
+    ensures { λ r. ⌜ r ≡ unnamedOf n ⌝ }
+{
+    match n {
+        Name::Until { next: _ } => 2,
+        Name::Unnamed { code } => code,
+    }
+}
+
+// The m bytes of a name.
+fn name_bytes(s: &[u8], at: usize, m: usize) -> Name
+    requires { ⌜ at ≤ length (now s) ⌝ }
+    ensures { λ r. ⌜ (seenName (now (s .entry)) at m r ≡ more nameByte m [] (drop at (now (s .entry)))) × NameIn (now (s .entry)) at m r ⌝ }
+{
+    let mut i: usize = 0;
+    let mut p = at;
+    while i < m {
+        if is_name(byte_at(s, p)) {
+            p += 1;
+            i += 1;
+        } else {
+            return Name::Unnamed { code: 2 };
+        }
+    }
+    Name::Until { next: p }
+}
+
+fn is_name(b: u8) -> bool
+    ensures { λ r. ⌜ r ≡ within 32 126 b ⌝ }
+{
+    if 32 <= b { b <= 126 } else { false }
+}
+
+// A space, and a name.
+fn read_name(s: &[u8], at: usize, m: usize) -> Name
+    ensures { λ r. ⌜ (seenName (now (s .entry)) (at + 1) m r ≡ field (more nameByte m []) (drop at (now (s .entry)))) × NameIn (now (s .entry)) (at + 1) m r ⌝ }
+{
+    if byte_at(s, at) != 32 {
+        return Name::Unnamed { code: 2 };
+    }
+    name_bytes(s, at + 1, m)
+}
+
+// A symbol: its name is in the line, its condition in the pool.
+pub enum SymbolLine {
+    Named {
+        name: usize,
+        length: usize,
+        shown: usize,
+        top: usize,
+    },
+    Nameless {
+        code: u32,
+    },
+}
+
+pub fn read_symbol(
+    s: &[u8],
+    at: usize,
+    conditions: &mut [i32; 3072],
+    used: usize,
+    top: usize,
+) -> SymbolLine
+    requires { ⌜ used + 1024 ≤ length (now conditions) ⌝ }
+    ensures { λ r. ⌜ (seenSymbol (now (s .entry)) (now (conditions .exit)) used r ≡ symbolLine (drop at (now (s .entry)))) × SymbolSmall (length (now (s .entry))) r × SymbolTop (now (conditions .exit)) used top r × Kept (pos 0) used (now (conditions .entry)) (now (conditions .exit)) ⌝ }
+{
+    let f = read_natural(s, at, 1, 64);
+    let Number::Value { value: m, next: a } = f else {
+        return SymbolLine::Nameless { code: code_of(f) };
+    };
+    let length = size(m);
+    let w = read_name(s, a, length);
+    let Name::Until { next: b } = w else {
+        return SymbolLine::Nameless {
+            code: unnamed_of(w),
+        };
+    };
+    let n = read_natural(s, b, 0, 1024);
+    let Number::Value { value: k, next: c } = n else {
+        return SymbolLine::Nameless { code: code_of(n) };
+    };
+    let shown = size(k);
+    let l = read_members(s, c, false, shown, conditions, used, top);
+    let Listed::Upto { next: e, top: t } = l else {
+        return SymbolLine::Nameless { code: stop_of(l) };
+    };
+    if is_ended(s, e) {
+        return SymbolLine::Named {
+            name: a + 1,
+            length: length,
+            shown: shown,
+            top: t,
+        };
+    }
+    SymbolLine::Nameless { code: 2 }
+}

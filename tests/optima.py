@@ -1,0 +1,196 @@
+#!/usr/bin/env python3
+"""Writes the data of the test program crates/optima: programs in aspif, the lines of their single advances and the line at their end.
+
+    apt-get install clasp && tests/models/make.py && tests/optima.py
+
+The programs are those of crates/models, some with cores, strata and levels written by hand, and forty random ones. The costs at the end, or that there is no
+stable model, are clasp's (Debian's package clasp). The lines of single advances and the number of advances come from tests/optima_model.py, whose end must be
+clasp's too. No line comes from the project's own programs.
+"""
+import os
+import random
+import re
+import subprocess
+import sys
+
+HERE = os.path.dirname(os.path.abspath(__file__))
+sys.path.insert(0, HERE)
+from optima_model import Machine, holds, read
+
+CRATES = os.path.join(HERE, '..', 'crates')
+OUT = os.path.join(CRATES, 'optima')
+SMALL = 6            # up to so many atoms every advance is printed
+MOST = 3000          # advances of a random program
+
+CHOICE3 = '1 1 3 1 2 3 0 0\n'
+CHOICE4 = '1 1 4 1 2 3 4 0 0\n'
+CHOICE6 = '1 1 6 1 2 3 4 5 6 0 0\n'
+
+
+def pairs(k, atoms):
+    """Never k + 1 of the atoms false: at least so many are in."""
+    from itertools import combinations
+    return ''.join(f'1 0 0 0 {len(c)} ' + ' '.join(f'-{a}' for a in c) + '\n' for c in combinations(atoms, k))
+
+
+BY_HAND = {
+    # document 01's core: remaining 7, 5, 5 at stratum 5
+    'sevenfive': CHOICE3 + '1 0 0 0 3 -1 -2 -3\n2 0 3 1 7 2 5 3 5\n',
+    'allseven': '1 0 1 1 0 0\n1 0 1 2 0 0\n1 0 1 3 0 0\n2 0 3 1 7 2 5 3 5\n',
+    # at least two, three of so many: cores of derived soft literals
+    'twoofthree': CHOICE3 + pairs(2, [1, 2, 3]) + '2 0 3 1 7 2 5 3 5\n',
+    'twooffour': CHOICE4 + pairs(3, [1, 2, 3, 4]) + '2 0 4 1 1 2 1 3 1 4 1\n',
+    'threeoffour': CHOICE4 + pairs(2, [1, 2, 3, 4]) + '2 0 4 1 3 2 2 3 2 4 1\n',
+    'threeofsix': CHOICE6 + pairs(4, [1, 2, 3, 4, 5, 6]) + '2 0 6 1 1 2 1 3 1 4 1 5 1 6 1\n',
+    'fourofsix': CHOICE6 + pairs(3, [1, 2, 3, 4, 5, 6]) + '2 -1 6 1 9 2 7 3 5 4 5 5 3 6 1\n',
+    # (0, 900) is cheaper than (1, 0)
+    'order': '1 1 1 1 0 0\n2 2 1 1 1\n2 1 1 -1 900\n',
+    # the same literal twice, both signs, weight 0, a level without entries, a level that no model pays for
+    'twice2': '1 1 2 1 2 0 0\n1 0 0 0 2 -1 -2\n2 5 4 1 2 1 3 2 4 -2 0\n',
+    'signs': CHOICE3 + '2 0 6 1 3 -1 2 2 1 -2 4 3 1 -3 1\n',
+    'empty': '1 1 1 1 0 0\n1 0 0 0 1 -1\n2 9 0\n2 4 1 -1 8\n2 -2 1 1 3\n2 -7 0\n',
+    # three levels, each with its own core
+    'levels': CHOICE4 + '1 0 0 0 2 -1 -2\n1 0 0 0 2 -3 -4\n1 0 0 0 2 1 3\n2 3 2 1 2 2 2\n2 0 2 3 5 4 1\n2 -3 2 -1 1 -3 1\n',
+    # a lower level that the settled one decides
+    'decided': CHOICE3 + pairs(2, [1, 2, 3]) + '2 1 3 1 1 2 1 3 2\n2 0 1 -3 50\n2 -1 2 1 1 2 3\n',
+    # unfounded loops beside costs
+    'loopcost': '1 1 1 1 0 0\n1 0 1 2 0 1 3\n1 0 1 3 0 1 2\n1 0 1 2 0 1 1\n2 0 2 -2 4 1 3\n',
+    'wants': '1 1 2 1 2 0 0\n1 0 1 3 0 1 4\n1 0 1 4 0 1 3\n2 1 1 -3 5\n2 0 2 1 1 -2 1\n',
+    'eights': '1 1 1 1 0 0\n' + ''.join(f'2 {p} 1 {"" if p % 2 else "-"}1 {p + 5}\n' for p in range(-4, 4)),
+    'incoherent': '1 1 2 1 2 0 0\n1 0 0 0 1 1\n1 0 0 0 1 -1\n2 0 2 1 5 2 6\n',
+}
+
+
+def random_program(seed):
+    """8 to 20 atoms, one to three levels with priorities of either sign; choices, plain rules, constraints, loops, duplicates, weight 0."""
+    r = random.Random(1000 + seed)
+    n = r.randint(8, 20)
+    literal = lambda: r.choice((1, -1)) * r.randint(1, n)
+    lines = []
+    if r.random() < 0.7:                                    # a wide choice, so that costs decide
+        heads = r.sample(range(1, n + 1), r.randint(3, min(n, 9)))
+        lines.append([1, 1, len(heads), *heads, 0, 0])
+    for _ in range(r.randint(n, 2 * n)):
+        body = [literal() for _ in range(r.choice((0, 1, 1, 2, 2, 3, 4)))]
+        if body and r.random() < 0.1:
+            body.append(body[0])                            # a duplicate
+        shape = r.random()
+        if shape < 0.3:
+            heads = [r.randint(1, n) for _ in range(r.randint(0, 4))]
+            lines.append([1, 1, len(heads), *heads, 0, len(body), *body])
+        elif shape < 0.75:
+            lines.append([1, 0, 1, r.randint(1, n), 0, len(body), *body])
+        elif shape < 0.85:                                  # a loop of two or three
+            loop = r.sample(range(1, n + 1), r.choice((2, 3)))
+            lines += [[1, 0, 1, a, 0, 1, b] for a, b in zip(loop, loop[1:] + loop[:1])]
+        else:
+            body = [literal() for _ in range(r.choice((2, 2, 3, 4)))]
+            lines.append([1, 0, 0, 0, len(body), *body])
+    for p in r.sample(range(-4, 5), r.randint(1, 3)):
+        for _ in range(r.choice((1, 1, 2))):
+            entries = [(literal(), r.choice((0, 1, 1, 1, 2, 3, 5, 9, 1000000))) for _ in range(r.randint(2, 7))]
+            if r.random() < 0.4:
+                entries.append((entries[0][0], r.choice((1, 4))))
+            lines.append([2, p, len(entries), *[x for e in entries for x in e]])
+    if r.random() < 0.2:
+        lines.append([2, r.randint(-4, 4), 0])
+    return ''.join(' '.join(map(str, l)) + '\n' for l in lines)
+
+
+def largest():
+    """Every table of an optimization full: 2,048 rules with 16,384 literals, 1,024 atoms, 512 entries, 8 levels. On the lowest level one entry must be paid for and
+    the rest can be spared together, since each longer constraint has an atom that nothing asks for; on the others the first model costs nothing."""
+    r = random.Random(7)
+    lines = [[1, 1, 1024, *range(1, 1025), 0, 0]]
+    paid = (7,)
+    lines += [[1, 0, 0, 0, 1, 64 * l + 1] for l in paid]
+    left = 16384 - 1024 - len(paid)
+    while len(lines) < 2048:
+        size = left // (2048 - len(lines))
+        left -= size
+        lines.append([1, 0, 0, 0, size, *[r.randint(1, 9) for _ in range(size - 1)], r.randint(513, 999)])
+    for l in range(8):
+        lines.append([2, 3 - l, 64, *[x for a in range(64 * l + 1, 64 * l + 65) for x in (-a if l in paid else a, 1)]])
+    return ''.join(' '.join(map(str, l)) + '\n' for l in lines)
+
+
+def clasp_end(text):
+    """The costs of an optimal stable model level by level, or None: clasp's model, summed here, and compared with the figures that clasp itself prints."""
+    n, _, priorities, entries = read(text)
+    body = [l for l in text.split('\n')[1:-2] if not l.startswith('4 ')]
+    given = '\n'.join(['asp 1 0 0', *body, *(f'4 {len(str(a)) + 1} x{a} 1 {a}' for a in range(1, n + 1)), '0']) + '\n'
+    out = subprocess.run(['clasp', '-n', '0', '--opt-mode=opt', '-'], input=given, capture_output=True, text=True).stdout
+    if 'UNSATISFIABLE' in out:
+        return None
+    assert 'OPTIMUM FOUND' in out or (not entries and 'SATISFIABLE' in out), out
+    model = {int(w[1:]) for w in re.findall(r'^Answer: \d+\n(.*)$', out, re.M)[-1].split()}
+    costs = [sum(w for q, l, w in entries if q == p and holds(model, l)) for p in priorities]
+    printed = re.findall(r'^Optimization: (.*)$', out, re.M)
+    if printed:
+        said = list(map(int, printed[-1].split()))
+        assert said == costs or said == [c for c, p in zip(costs, priorities) if any(q == p for q, _, _ in entries)], (said, costs)
+    return costs
+
+
+def lines(name, text):
+    """What crates/optima must print of a program."""
+    machine = Machine(text)
+    steps = []
+    while machine.status == 'running':
+        machine.advance()
+        steps.append(machine.line())
+    costs = clasp_end(text)
+    k = len(machine.priorities)
+    if costs is None:
+        end = f'{machine.count} incoherent lower' + ' 0' * k + ' upper' + ' -' * k + ' level 0 stratum 0'
+    else:
+        figures = ''.join(f' {c}' for c in costs)
+        end = f'{machine.count} optimum lower{figures} upper{figures} level 0 stratum 0'
+    assert end == machine.line(), (name, end, machine.line())
+    small = machine.n <= SMALL
+    shown = [f'{name}: advance by advance', *(' ' + s for s in steps)] if small else [f'{name}:']
+    return machine, [*shown, 'end ' + end]
+
+
+def main():
+    models = os.path.join(CRATES, 'models')
+    texts = {}
+    for name in open(os.path.join(models, 'args')).read().split():
+        texts[name] = open(os.path.join(models, 'data', name)).read()
+    for name, body in BY_HAND.items():
+        texts[name] = f'asp 1 0 0\n{body}0\n'
+    texts['largest'] = f'asp 1 0 0\n{largest()}0\n'
+    expected = {name: lines(name, text) for name, text in texts.items()}
+    seed, found, dull = 0, 0, 0
+    while found < 40:
+        name, text = f'mixed{found:02}', f'asp 1 0 0\n{random_program(seed)}0\n'
+        seed += 1
+        machine = Machine(text)
+        while machine.status == 'running' and machine.count <= MOST:
+            machine.advance()
+        if machine.count > MOST:
+            continue
+        if machine.status == 'incoherent' or machine.upper == [0] * len(machine.upper):
+            if dull == 6:
+                continue                                    # most should have costs to find
+            dull += 1
+        found += 1
+        texts[name], expected[name] = text, lines(name, text)
+    os.makedirs(os.path.join(OUT, 'data'), exist_ok=True)
+    for old in os.listdir(os.path.join(OUT, 'data')):
+        os.remove(os.path.join(OUT, 'data', old))
+    for name, text in texts.items():
+        with open(os.path.join(OUT, 'data', name), 'w') as f:
+            f.write(text)
+    with open(os.path.join(OUT, 'args'), 'w') as f:
+        f.write(''.join(name + '\n' for name in texts))
+    with open(os.path.join(OUT, 'stdout'), 'w') as f:
+        f.write(''.join(l + '\n' for _, ls in expected.values() for l in ls))
+    machines = [m for m, _ in expected.values()]
+    ends = {s: sum(m.status == s for m in machines) for s in ('optimum', 'incoherent', 'full')}
+    print(f'{len(texts)} programs ({ends}), {sum(len(ls) for _, ls in expected.values())} lines,',
+          f'{sum(m.count for m in machines)} advances, at most {max(m.count for m in machines)};',
+          f'{sum(m.cored for m in machines)} cores, {sum(m.nested for m in machines)} with derived members; {seed} seeds')
+
+
+main()
