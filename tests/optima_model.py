@@ -3,7 +3,8 @@
 
 Written from those two papers and in their words, not from the code: sets are Python sets, a path is a list of literals with their marks, a wish is judged by
 counting its core's unmet members each time. "Broken in every set that agrees with the path" is tried out over every choice for the undecided atoms of the rule.
-tests/optima.py uses it for the lines of single advances and for the number of advances; the costs at the end are clasp's.
+tests/optima.py uses it for the lines of single advances and for the number of advances; the costs at the end are clasp's. tests/service.py uses it as the
+machine of the service.
 """
 from itertools import product
 
@@ -65,7 +66,8 @@ def broken(m, rule):
 
 class Machine:
     def __init__(self, text):
-        self.n, self.rules, self.priorities, self.entries = read(text)
+        """Of a text, or of what `read` says of one."""
+        self.n, self.rules, self.priorities, self.entries = read(text) if isinstance(text, str) else text
         self.status, self.count = 'running', 0
         self.path, self.blamed = [], []
         self.lower = [0] * len(self.priorities)

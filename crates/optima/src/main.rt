@@ -5,7 +5,7 @@ ghost use Prim.Native.Nat.{ℕ, _≤_, _<_};
 ghost use lib.ListN.{length};
 ghost use Rattle.aspif.specs.Store.{WellFormed};
 ghost use Rattle.optimizer.specs.Run.{Reached};
-ghost use Rattle.optima.specs.Tables.{sourceOf};
+ghost use Rattle.planner.specs.Held.{sourceOf};
 use aspif::text::Loading;
 use aspif::text::Stored;
 use libc::STDOUT_FILENO;

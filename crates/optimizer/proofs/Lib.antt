@@ -10,4 +10,5 @@ pub mod Verdicts
 pub mod Classes
 pub mod Meanings
 pub mod Validity
+pub mod Patient
 pub mod Reached

@@ -39,6 +39,7 @@ use Rattle.optimum.proofs.Invariant.{GoodWork, Inv}
 use Rattle.optimizer.proofs.Advancing.{advances-plus}
 use Rattle.optimizer.proofs.Classes.{pastAt, settledAt, laterAt, workOf, given, costs-at}
 use Rattle.optimizer.proofs.Meanings.{meantBy, meant, OnLevel, AtEnd, InOrder, costs-are}
+use Rattle.optimizer.proofs.Patient.{Patient, reached-patient}
 use Rattle.optimizer.proofs.Validity.{Valid, level-means, reached-valid, valid-ready}
 
 -- ---- it can be advanced
@@ -51,6 +52,19 @@ reached-steady {S} {s} r j k =
 pub reached-ready : {S : Source} {s : Search} → Reached S s → ReadyRun S 1 s
 unfolding advancesOf
 reached-ready r = reached-steady r 0 1
+
+-- ---- what leads on
+
+pub reached-fresh : {S : Source} → FormedSource S → {s : Search} → s ≡ freshSearch → Reached S s
+unfolding advancesOf
+reached-fresh f e = record { source = f; made = 0; is = e }
+
+pub reached-more : {S : Source} (k : ℕ) {s r : Search} → Reached S s → r ≡ advancesOf S k s → Reached S r
+reached-more {S} k h e = record { source = h .source; made = h .made + k; is = e ∙ ap (advancesOf S k) (h .is) ∙ sym (advances-plus S (h .made) k freshSearch) }
+
+pub reached-next : {S : Source} {s r : Search} → Reached S s → r ≡ advanceOf S s → Reached S r
+unfolding advancesOf
+reached-next h e = reached-more 1 h e
 
 -- ---- the lower bounds, as a list
 
@@ -124,7 +138,7 @@ module _ (S : Source) (f : FormedSource S) where
 
   -- ---- the facts of a valid state
 
-  module _ (c : ℕ) (s : Search) (v : Valid S c s) where
+  module _ (c : ℕ) (s : Search) (v : Valid S c s) (a : Patient S c s) where
     abbrev state : Phase → abstract.State
     state p = meantBy L c p (trailOf (placesOf (s .trail))) (blamedOf (s .blame)) (s .work)
 
@@ -200,7 +214,8 @@ module _ (S : Source) (f : FormedSource S) where
       none-is = λ e. inv-at e;
       is-none = none-by (s .phase) (v .inv);
       few = few-by (s .phase) (v .inv);
-      never-full = λ a e. never-full (given S) c _ a (inv-at e);
+      patient = a .model;
+      never-full = λ g e. never-full (given S) c _ g (inv-at e);
       level = level-by (s .phase) (v .order);
       stratum = stratum-by (s .phase) (v .inv);
       identity = identity-by (s .phase) (v .order) (v .inv);
@@ -238,4 +253,4 @@ best-falls {S} {s} r h =
 
 -- THE FACTS HOLD AFTER ANY NUMBER OF ADVANCES
 pub reached-facts : (S : Source) → FormedSource S → (k : ℕ) → Facts S (madeBy S k freshSearch) (advancesOf S k freshSearch)
-reached-facts S f k = valid-facts S f (madeBy S k freshSearch) (advancesOf S k freshSearch) (reached-valid S f k)
+reached-facts S f k = valid-facts S f (madeBy S k freshSearch) (advancesOf S k freshSearch) (reached-valid S f k) (reached-patient S k)

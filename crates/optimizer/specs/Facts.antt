@@ -75,6 +75,8 @@ pub record Facts (S : Source) (c : ℕ) (s : Search) : Type 0 where
   pub is-none : isRunning (s .phase) ≡ false → ((M : Set) → Model S M → ⊥) → s .phase ≡ Incoherent
   -- "while the status is running, fewer than 2^(n+1) × (2W + 1) advances have been made since the load"
   pub few : isRunning (s .phase) ≡ true → c < 2 ^ suc (S .n) * (2 * weightIn S + 1)
+  -- a model has all n atoms added first, one an advance: "one whose first advance finds everything fails the path rules"
+  pub patient : hasModel (s .phase) ≡ true → S .n < c
   -- "The status is never full if each level weighs 90 or less."
   pub never-full : All (λ (l : List Entry). weight l ≤ 90) (levelsIn (S .levels)) → s .phase ≡ Full → ⊥
   -- the level in work, from 0, is one of the levels, and its stratum is 1 or more

@@ -102,6 +102,13 @@ module _ (t : List ℕ) (p : Stored) (w : WellFormed p) (k : ℕ) where
       subst (λ (n : ℕ). madeBy S k freshSearch < 2 ^ suc n * (2 * W P + 1)) (w .atoms)
       (subst (λ (x : ℕ). madeBy S k freshSearch < 2 ^ suc (p .counts .atoms) * (2 * x + 1)) (weight-is p w) (facts .few (status-running (q .phase) h)))
 
+  patient-of : (u : List ℕ) → given (hasModel (q .phase)) (uppersIn S q) ≡ some u → atoms P < madeBy S k freshSearch
+  patient-of u e = go (hasModel (q .phase)) refl e
+    where
+      go : (m : Bool) → hasModel (q .phase) ≡ m → given m (uppersIn S q) ≡ some u → atoms P < madeBy S k freshSearch
+      go true h e = subst (λ (n : ℕ). n < madeBy S k freshSearch) (w .atoms) (facts .patient h)
+      go false h e = let z : _≡_ {A = ℕ} 0 1 = cc in absurd (omega arith)
+
   runs-of : (b : ℕ) → RunIs b s
   runs-of b =
       record {
@@ -129,6 +136,7 @@ module _ (t : List ℕ) (p : Stored) (w : WellFormed p) (k : ℕ) where
         incoherent = λ h. facts .none-is (status-incoherent (q .phase) h);
         without = λ h g. ap statusOf (facts .is-none (sym (runs-is (q .phase)) ∙ h) g);
         few = few-of;
+        patient = patient-of;
         never-full = λ g h. facts .never-full (subst (All (λ (l : List Entry). weight l ≤ 90)) (sym (levels-is p w)) g) (status-full (q .phase) h);
         runs = runs-of;
       }

@@ -10,7 +10,7 @@ use Rattle.aspif.specs.declared.text.Stored.{Stored}
 use Rattle.optimizer.specs.declared.state.Search.{Search}
 use Rattle.optimizer.specs.Finish.{freshSearch, advanceOf, advancesOf}
 use Rattle.optimizer.specs.Run.{Reached}
-use Rattle.optimizer.proofs.Advancing.{advances-plus}
+use Rattle.optimizer.proofs.Reached.{reached-fresh, reached-more, reached-next}
 use Rattle.planner.specs.declared.service.Service.{Service}
 use Rattle.planner.specs.declared.service.Status.{Status}
 use Rattle.planner.specs.Held.{freshService, sourceOf}
@@ -27,24 +27,12 @@ same e h = subst Sound (sym e) h
 
 -- ---- load
 
-begun : (p : Stored) (q : Search) → WellFormed p → q ≡ freshSearch → Reached (sourceOf p) q
-unfolding advancesOf
-begun p q w e = record { source = formed-source p w; made = 0; is = e }
-
 pub sound-load : (x : Answer) (a : Loads) {s u : Service} → AfterLoad x s (outcome a u) → Sound s → Sound u
 sound-load (accepted P t) a {s} {u} d h =
-    record { formed = λ l. d .1 .tables .formed; reached = λ l. begun (u .stored) (u .search) (d .1 .tables .formed) (d .1 .search) }
+    record { formed = λ l. d .1 .tables .formed; reached = λ l. reached-fresh (formed-source (u .stored) (d .1 .tables .formed)) (d .1 .search) }
 sound-load (refused c m) a d h = same (ap (λ (x : Outcome Loads). x .after) d) h
 
 -- ---- advance and run
-
-reached-more : (p : Stored) (b : ℕ) {q : Search} → Reached (sourceOf p) q → Reached (sourceOf p) (advancesOf (sourceOf p) b q)
-reached-more p b r =
-    record { source = r .source; made = r .made + b; is = ap (advancesOf (sourceOf p) b) (r .is) ∙ sym (advances-plus (sourceOf p) (r .made) b freshSearch) }
-
-reached-once : (p : Stored) {q : Search} → Reached (sourceOf p) q → Reached (sourceOf p) (advanceOf (sourceOf p) q)
-unfolding advancesOf
-reached-once p r = reached-more p 1 r
 
 -- where it is loaded, the call moved the optimization to q; else it was refused
 moved : {A : Type 0} (s : Service) (q : Search) (x : A) (y : A) → Sound s → (Reached (sourceOf (s .stored)) (s .search) → Reached (sourceOf (s .stored)) q)
@@ -56,10 +44,10 @@ moved {A} s q x y h f = go (s .loaded) refl
     go false e = h
 
 pub sound-advance : {s u : Service} {a : Says Status} → outcome a u ≡ advanceCall s → Sound s → Sound u
-sound-advance {s} d h = same (ap (λ (x : Outcome (Says Status)). x .after) d) (moved s (advanced s) _ (refuses 6) h (reached-once (s .stored)))
+sound-advance {s} d h = same (ap (λ (x : Outcome (Says Status)). x .after) d) (moved s (advanced s) _ (refuses 6) h (λ r. reached-next r refl))
 
 pub sound-run : (b : ℕ) {s u : Service} {a : Says Count} → outcome a u ≡ runCall s b → Sound s → Sound u
-sound-run b {s} d h = same (ap (λ (x : Outcome (Says Count)). x .after) d) (moved s (ran s b) _ (refuses 6) h (reached-more (s .stored) b))
+sound-run b {s} d h = same (ap (λ (x : Outcome (Says Count)). x .after) d) (moved s (ran s b) _ (refuses 6) h (λ r. reached-more b r refl))
 
 -- ---- calls that leave the service as it was
 

@@ -9,3 +9,4 @@ pub mod Symbols
 pub mod Together
 pub mod Kept
 pub mod Demand
+pub mod Samples

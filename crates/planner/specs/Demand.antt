@@ -91,6 +91,8 @@ pub record Claim (P : Program) (w : List ℕ) (s : Service) (T : Tally) : Type 0
   pub without : isRunning (T .held) ≡ false → ((M : Set) → Stable (P .rules) M → ⊥) → T .held ≡ status.Incoherent
   -- "With n atoms and total weight W, while the status is "running", fewer than 2^(n+1) × (2W + 1) advances have been made since the load."
   pub few : T .held ≡ status.Running → T .count < 2 ^ suc (atoms P) * (2 * W P + 1)
+  -- a model needs all n atoms added, one an advance
+  pub patient : (u : List ℕ) → seenOf s .upper ≡ some u → atoms P < T .count
   -- "The status is never "full" if each level weighs 90 or less."
   pub never-full : All (λ (l : List Entry). weight l ≤ 90) (levels P) → T .held ≡ status.Full → ⊥
   pub runs : (b : ℕ) → RunIs b s

@@ -1,6 +1,7 @@
 -- `optima::advanced` meets its contract.
 -- Assumes nothing.
-use Rattle.optima.proofs.Reaching.{levels-inside, levels-lent, reached-next}
+use Rattle.optima.proofs.Reaching.{levels-inside, levels-lent}
+use Rattle.optimizer.proofs.Reached.{reached-next}
 use borrow.Author.Needs.{needs}
 use Rattle.optima.proofs.advanced.Statement.{statement}
 use Rattle.optima.proofs.advanced.Tie as tie

@@ -2,7 +2,7 @@
 -- Assumes nothing.
 use Prim.Native.Nat.{_≤_, _-_}
 use Rattle.optimizer.specs.Run.{Reached}
-use Rattle.optima.specs.Tables.{sourceOf}
+use Rattle.planner.specs.Held.{sourceOf}
 use Rattle.optima.proofs.Reaching.{reached-fresh}
 use borrow.Author.Needs.{needs}
 use Rattle.optima.proofs.trace.Statement.{statement}

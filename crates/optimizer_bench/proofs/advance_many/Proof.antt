@@ -3,7 +3,7 @@
 use Prim.Native.Nat.{_-_}
 use Rattle.optimizer.specs.Source.{source, levelTables}
 use Rattle.optimizer.specs.Run.{Reached}
-use Rattle.optimizer_bench.proofs.Reaching.{reached-fresh, reached-next}
+use Rattle.optimizer.proofs.Reached.{reached-fresh, reached-next}
 use borrow.Author.Needs.{needs}
 use Rattle.optimizer_bench.proofs.advance_many.Statement.{statement}
 use Rattle.optimizer_bench.proofs.advance_many.Tie as tie

@@ -1,6 +1,6 @@
 -- `optimizer_bench::run_many` meets its contract.
 -- Assumes nothing.
-use Rattle.optimizer_bench.proofs.Reaching.{reached-fresh}
+use Rattle.optimizer.proofs.Reached.{reached-fresh}
 use borrow.Author.Needs.{needs}
 use Rattle.optimizer_bench.proofs.run_many.Statement.{statement}
 use Rattle.optimizer_bench.proofs.run_many.Tie as tie

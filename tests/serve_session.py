@@ -1,0 +1,78 @@
+#!/usr/bin/env python3
+"""Writes crates/serve/stdin and stdout: a session with every command, every refusal, lines that are no command, and several programs one after another.
+
+The commands stand here. What `serve` has to print for them comes from tests/service.py, the model of document 01, and not from the program.
+"""
+import os
+
+from service import Service
+
+PLAN = """asp 1 0 0
+1 1 2 1 2 0 0
+1 0 1 3 0 2 1 2
+1 0 0 0 2 -1 -2
+2 1 2 1 2 2 3
+4 1 a 1 1
+4 1 b 1 2
+0
+"""
+
+
+def load(text):
+    text = text.encode('latin1') if isinstance(text, str) else text
+    return b'load %d\n' % len(text) + text
+
+
+def program(lines):
+    return load('asp 1 0 0\n' + lines + '0\n')
+
+
+# At least two of three, weights 7, 5, 5: cores, a derived wish among them, strata.
+CORES = '1 1 3 1 2 3 0 0\n1 0 0 0 2 -1 -2\n1 0 0 0 2 -1 -3\n1 0 0 0 2 -2 -3\n2 0 3 1 7 2 5 3 5\n4 3 one 1 1\n4 11 two, three! 2 2 3\n4 1 - 0\n'
+# Three levels, one of them without entries, negative priorities, a comment, an atom that stands in a symbol only.
+LEVELS = ('10 levels\n1 1 4 1 2 3 4 0 0\n1 0 0 0 2 -1 -2\n10\n1 0 0 0 2 -3 -4\n1 0 0 0 2 1 3\n2 3 2 1 2 2 2\n2 0 0\n2 -3 2 -1 1 -3 1\n2 -1000 1 -4 1000000\n'
+          '4 5 a b c 1 -12\n')
+# 100 dear ways and a cheap one that 41 entries price: each core has 101 members, so the 4,096 wishes are passed. An atom in a symbol keeps paths open.
+FULL = (f'1 1 101 {" ".join(map(str, range(1, 102)))} 0 0\n1 0 0 0 101 {" ".join(str(-a) for a in range(1, 102))}\n'
+        f'2 9 100 {" ".join(f"{a} 1000" for a in range(1, 101))}\n2 9 41{" 101 1" * 41}\n2 1 1 1 6\n4 4 rest 1 102\n4 5 cheap 1 101\n')
+
+SESSION = [
+    # nothing loaded
+    'look', 'advance', 'run 5', 'write', 'model', 'symbol 0', 'shown 0', '', 'clear',
+    # document 01's sample, advance by advance at first
+    load(PLAN), 'look', 'model', 'shown 0', 'shown 2', 'symbol 1', 'symbol 2', 'write', 'write 91', 'write 92', 'write 0', 'run 0', 'advance', 'advance', 'advance', 'advance', 'look', 'model',
+    'run 1000000', 'look', 'model', 'model 2', 'model 3', 'shown 0', 'shown 1', 'advance', 'run 7', 'look',
+    # refused texts; the program before them stands
+    load('asp 1 0 1\n0\n'), load('asp 1 0 0'), load('asp 1 0 0\n1 0 1 01 0 0\n0\n'), load('asp 1 0 0\n10 a comment\n1 0 1 1 0 1 7 \n0\n'), load('asp 1 0 0\n1 0 1 1 0 0\n'),
+    load('asp 1 0 0\n0\n0\n'), load('asp 1 0 0\n1 1 1 1 0 0\n3 1 1\n0\n'), load('asp 1 0 0\n1 0 2 1 2 0 0\n0\n'), load('asp 1 0 0\n1 0 1 1025 0 0\n0\n'), load('asp 1 0 0\n11\n0\n'),
+    program(''.join(f'2 {p} 0\n' for p in range(9))), load(''), load(b'x' * 65538), 'model', 'look',
+    # cores and strata
+    program(CORES), 'run 9', 'look', 'shown 1', 'run 4294967295', 'look', 'model', 'symbol 0 2', 'symbol 0 3', 'symbol 1', 'symbol 2', 'shown 0', 'shown 1', 'shown 2', 'symbol 3',
+    'symbol 4294967295 0',
+    # levels
+    program(LEVELS), 'run 1000', 'look', 'run 4294967295', 'look', 'model 11', 'model 12', 'shown 0', 'symbol 0 4', 'write 4294967295',
+    # no stable model; a program without levels; the empty program; a text of 65,536 bytes
+    program('1 1 2 1 2 0 0\n1 0 1 3 0 1 -3\n2 5 2 1 5 -2 6\n4 1 x 0\n'), 'run 1000', 'look', 'model', 'shown 0', 'symbol 0 1', 'advance',
+    program('1 0 1 1 0 1 1\n'), 'run 1', 'look', 'run 1', 'run 1', 'look', 'model',
+    program('10 ' + 'x' * (65536 - 12 - 4) + '\n'), 'write', 'advance', 'look', 'model', 'model 0',
+    # a table of wishes that is passed
+    program(FULL), 'run 4294967295', 'look', 'model', 'shown 1', 'shown 0', 'advance', 'run 3',
+    # lines that are no command; nothing changes
+    'hello', 'Look', ' look', 'look ', 'look 1', 'advance 1', 'clear 0', 'quit now', 'run', 'run ', 'run 1 2', 'run -1', 'run 4294967296', 'run 01', 'run 1x', 'run  1', 'load', 'load x',
+    'load 99999999999999999999', 'write x', 'write 1 2', 'model 1.5', 'symbol', 'symbol x', 'symbol 0 x', 'symbol 0 1 2', 'symbol  1', 'shown', 'shown 0 0', '\t', '\0', '\r', 'look\r',
+    b'\xff' * 128, 'x' * 129, 'run ' + '0' * 200, '', 'symbol 0', 'look',
+    'clear', 'look', 'model', load(PLAN), 'run 1000000', 'shown 0', 'quit', 'look',
+]
+
+
+def main():
+    stdin = b''.join(c if isinstance(c, bytes) and c.startswith(b'load ') else (c.encode('latin1') if isinstance(c, str) else c) + b'\n' for c in SESSION)
+    answers = [a or b'' for _, a in Service().answers(stdin)]
+    crate = os.path.join(os.path.dirname(os.path.abspath(__file__)), '..', 'crates', 'serve')
+    for name, content in ('stdin', stdin), ('stdout', b''.join(answers)):
+        with open(os.path.join(crate, name), 'wb') as f:
+            f.write(content)
+    print(len(answers), 'commands')
+
+
+main()
