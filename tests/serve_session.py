@@ -32,9 +32,16 @@ CORES = '1 1 3 1 2 3 0 0\n1 0 0 0 2 -1 -2\n1 0 0 0 2 -1 -3\n1 0 0 0 2 -2 -3\n2 0
 # Three levels, one of them without entries, negative priorities, a comment, an atom that stands in a symbol only.
 LEVELS = ('10 levels\n1 1 4 1 2 3 4 0 0\n1 0 0 0 2 -1 -2\n10\n1 0 0 0 2 -3 -4\n1 0 0 0 2 1 3\n2 3 2 1 2 2 2\n2 0 0\n2 -3 2 -1 1 -3 1\n2 -1000 1 -4 1000000\n'
           '4 5 a b c 1 -12\n')
-# 100 dear ways and a cheap one that 41 entries price: each core has 101 members, so the 4,096 wishes are passed. An atom in a symbol keeps paths open.
-FULL = (f'1 1 101 {" ".join(map(str, range(1, 102)))} 0 0\n1 0 0 0 101 {" ".join(str(-a) for a in range(1, 102))}\n'
-        f'2 9 100 {" ".join(f"{a} 1000" for a in range(1, 101))}\n2 9 41{" 101 1" * 41}\n2 1 1 1 6\n4 4 rest 1 102\n4 5 cheap 1 101\n')
+
+
+def many(filling):
+    """100 dear ways and a cheap one that 39 entries price: each of 39 cores has 101 members and gives 100 wishes. With `filling` more wishes, all met, the level
+    comes to 4,039 + filling of them; entries of weight 0 are none. The next level has a core of two. An atom that stands in a symbol only keeps paths open."""
+    ways = ' '.join(map(str, range(1, 102)))
+    return (f'1 1 103 {ways} 104 105 0 0\n1 0 0 0 101 {" ".join(str(-a) for a in range(1, 102))}\n1 0 0 0 2 -104 -105\n'
+            f'2 9 100 {" ".join(f"{a} 1000" for a in range(1, 101))}\n2 9 39{" 101 1" * 39}\n2 9 {filling + 3}{" 103 1" * filling}{" 101 0" * 3}\n2 1 2 104 6 105 6\n'
+            '4 4 rest 1 102\n4 5 cheap 1 101\n')
+
 
 SESSION = [
     # nothing loaded
@@ -55,8 +62,9 @@ SESSION = [
     program('1 1 2 1 2 0 0\n1 0 1 3 0 1 -3\n2 5 2 1 5 -2 6\n4 1 x 0\n'), 'run 1000', 'look', 'model', 'shown 0', 'symbol 0 1', 'advance',
     program('1 0 1 1 0 1 1\n'), 'run 1', 'look', 'run 1', 'run 1', 'look', 'model',
     program('10 ' + 'x' * (65536 - 12 - 4) + '\n'), 'write', 'advance', 'look', 'model', 'model 0',
-    # a table of wishes that is passed
-    program(FULL), 'run 4294967295', 'look', 'model', 'shown 1', 'shown 0', 'advance', 'run 3',
+    # 4,096 wishes on a level, and one too many
+    program(many(57)), 'run 8000', 'look', 'run 4294967295', 'look', 'model', 'shown 1',
+    program(many(58)), 'run 4294967295', 'look', 'model', 'shown 1', 'shown 0', 'advance', 'run 3',
     # lines that are no command; nothing changes
     'hello', 'Look', ' look', 'look ', 'look 1', 'advance 1', 'clear 0', 'quit now', 'run', 'run ', 'run 1 2', 'run -1', 'run 4294967296', 'run 01', 'run 1x', 'run  1', 'load', 'load x',
     'load 99999999999999999999', 'write x', 'write 1 2', 'model 1.5', 'symbol', 'symbol x', 'symbol 0 x', 'symbol 0 1 2', 'symbol  1', 'shown', 'shown 0 0', '\t', '\0', '\r', 'look\r',

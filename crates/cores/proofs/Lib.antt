@@ -13,3 +13,6 @@ pub mod Queries
 pub mod Links
 pub mod Unpacked
 pub mod Kept
+pub mod Lent
+pub mod Walk
+pub mod Lending

@@ -1,10 +1,10 @@
 -- What holds in the loops that fill and change the tables: one record for each loop, and its laws. Assumes nothing.
 use mathlib.Core.Path.{_≡_, refl, sym, ap, ap₂, _∙_}
 use mathlib.Core.Bool.{Bool, true, false, _&&_}
-use mathlib.Core.List.{List, [], _∷_, _++_, map}
-use Prim.Native.Nat.{ℕ, zero, suc, _+_, _-_, _*_, _≤_, _<_}
-use mir.Syntax.{w32, w64}
-use mir.Val.{Fits, SFits, toZ, ofZ}
+use mathlib.Core.List.{List, [], _∷_}
+use Prim.Native.Nat.{ℕ, suc, _+_, _-_, _≤_, _<_}
+use mir.Syntax.{w32}
+use mir.Val.{SFits, toZ, ofZ}
 use mir.Facts.{toZ-ofZ}
 use native.Mathlib.Numerals.{add-one}
 use native.Mathlib.Nat.{add-zero, zero-add}
@@ -12,12 +12,12 @@ use native.Mathlib.Omega.{arith}
 use lib.Dec.{ltb, leb, leb→le}
 use mir.Facts.{and-yes}
 use lib.IntN.{ℤ, pos}
-use lib.ListN.{length, getD, set, take, drop, replicate, length-set, length-replicate, drop-of-length-le}
+use lib.ListN.{length, getD, set, drop, length-set, drop-of-length-le}
 use lib.Seq.{drop-cons, sets}
 use borrow.Author.Tests.{le-leb, lt-leb}
 use Rattle.asp.specs.Sets.{pick}
 use Rattle.asp.specs.Literal.{sameℤ}
-use Rattle.asp.specs.Program.{Literal, Entry, All}
+use Rattle.asp.specs.Program.{Entry, All}
 use Rattle.asp.specs.Cost.{level}
 use Rattle.asp.specs.Tables.{span, entryAt, entriesOf}
 use Rattle.cores.specs.declared.soft.Soft.{Soft}
@@ -42,12 +42,9 @@ unfolding lighten
 lighten-next s t ms i h = rw (add-one, drop-cons ms i 0)
 
 module _ {s : ℕ} {ms : List ℕ} {t₀ t : List Soft} {i : ℕ} where
-  -- a member's place, and its byte offset in the table
+  -- a member's place
   pub lose-at : Losing s ms t₀ t i → i < length ms → All (λ m. m < 4096) ms → {m : ℕ} → m ≡ getD ms i 0 → m < 4096
   lose-at l h a e = rw e (all-at (λ m. m < 4096) ms a i h)
-
-  pub lose-offset : Losing s ms t₀ t i → i < length ms → All (λ m. m < 4096) ms → {m : ℕ} → m ≡ getD ms i 0 → Fits w64 (m * 12)
-  lose-offset l h a e = record { fits = omega (arith, lose-at l h a e) }
 
   pub lose-next : Losing s ms t₀ t i → i < length ms → {m : ℕ} → m ≡ getD ms i 0 → {x : Soft} → x ≡ lighterBy s (getD t m noSoft) → Losing s ms t₀ (set t m x) (i + 1)
   lose-next l h {m} e {x} q = record {
@@ -191,9 +188,6 @@ unfolding weighty
 from-none t k = ap (λ (a : ℕ). record { softs = t .softs; members = t .members; ends = t .ends; count = a; cores = t .cores; lower = t .lower }) (add-zero k)
 
 module _ {ps ls : List ℤ} {ws : List ℕ} {n : ℕ} {q : ℤ} {t : LevelTables} {k i : ℕ} where
-  pub open-in : Opening ps ls ws n q t k i → i < n → n ≤ 512 → i < 512
-  open-in o h l = omega arith
-
   pub open-put : Opening ps ls ws n q t k i → i < n → {b : Bool} → b ≡ countsAt ps ws i q → b ≡ true
       → {x : Soft} → x ≡ entrySoft (getD ls i (pos 0)) (getD ws i 0) → {t₁ : LevelTables} → t₁ ≡ putSoft t k x → {k₁ : ℕ} → k₁ ≡ k + 1 → Opening ps ls ws n q t₁ k₁ (i + 1)
   open-put o h {b} e y {x} f et ek = rw (et, ek) (record {
@@ -216,15 +210,10 @@ module _ {ps ls : List ℤ} {ws : List ℕ} {n : ℕ} {q : ℤ} {t : LevelTables
         sym (from-skip t k _ _ g) ∙ o .rest;
   })
 
-  open-stop : Opening ps ls ws n q t k i → n ≤ i
+  pub open-stop : Opening ps ls ws n q t k i → n ≤ i
       → record { softs = t .softs; members = t .members; ends = t .ends; count = k; cores = t .cores; lower = t .lower } ≡ openedTables (level q (entriesOf ps ls ws n))
   unfolding span level
   open-stop o h = let e : n - i ≡ 0 = omega arith in sym (from-none t k) ∙ (rw e at (o .rest))
-
-module _ {ps ls : List ℤ} {ws : List ℕ} {n : ℕ} {q : ℤ} {t : LevelTables} {k i : ℕ} where
-  pub open-end : SFits w32 q → Opening ps ls ws n (toZ w32 (ofZ w32 q)) t k i → n ≤ i
-      → record { softs = t .softs; members = t .members; ends = t .ends; count = k; cores = t .cores; lower = t .lower } ≡ openedTables (level q (entriesOf ps ls ws n))
-  open-end s o h = rw (toZ-ofZ s) at (open-stop o h)
 
 -- ---- recording a core: the pieces put together
 

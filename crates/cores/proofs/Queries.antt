@@ -8,7 +8,7 @@ use native.Mathlib.Numerals.{add-one}
 use native.Mathlib.Omega.{arith}
 use lib.Dec.{ltb, leb, eqb}
 use lib.IntN.{ℤ, pos, negℤ}
-use lib.ListN.{length, getD, set, take, drop, length-take, length-set, drop-of-length-le}
+use lib.ListN.{length, getD, set, take, drop, length-take, length-set, length-map, List·getD-map, drop-of-length-le}
 use lib.Seq.{drop-cons, sets, getD-take}
 use borrow.Author.Tests.{lt-ltb, le-ltb, eq-eqb, ne-eqb}
 use Rattle.asp.specs.Sets.{pick}
@@ -17,7 +17,7 @@ use Rattle.asp.specs.Stable.{keep}
 use Rattle.cores.specs.declared.soft.Soft.{Soft}
 use Rattle.cores.specs.Level.{under, assumedFrom}
 use Rattle.cores.specs.Tables.{noSoft}
-use Rattle.cores.specs.Columns.{Columns, columns, putColumns, unpackedFrom, unpackedOf, raisedBy, Listed, listed, assumedOf, entriesAmong, Pairs, pairs, putPair, Paired, paired, putEntry, entriesOf}
+use Rattle.cores.specs.Columns.{Columns, columns, putColumns, unpackedFrom, unpackedOf, restsOf, raisedBy, Listed, listed, assumedOf, entriesAmong, Pairs, pairs, putPair, Paired, paired, putEntry, entriesOf}
 use Rattle.cores.proofs.Members.{all-at}
 use Rattle.cores.proofs.Strata.{assumed-yes, assumed-no}
 
@@ -91,6 +91,20 @@ module _ {s : ℕ} {ws : List ℕ} {best i : ℕ} where
 
   pub fall-end : Falling s ws best i → length ws ≤ i → best ≡ under s ws
   fall-end f h = sym (fall-none s best) ∙ sym (ap (λ (l : List ℕ). max best (under s l)) (drop-of-length-le ws {i = i} h)) ∙ f .rest
+
+-- the same over the records of a table
+rests-length : (ss : List Soft) (n : ℕ) → length ss ≡ 4096 → n ≤ 4096 → length (restsOf ss n) ≡ n
+rests-length ss n h l = omega (arith, h, length-map (take n ss) (λ (r : Soft). r .weight), length-take n ss)
+
+rests-at : (ss : List Soft) (n i : ℕ) → i < n → getD ss i noSoft .weight ≡ getD (restsOf ss n) i 0
+rests-at ss n i h = ap (λ (r : Soft). r .weight) (sym (getD-take n ss i noSoft h)) ∙ sym (List·getD-map (λ (r : Soft). r .weight) (take n ss) i noSoft)
+
+module _ (s : ℕ) (ss : List Soft) (n : ℕ) {best i : ℕ} where
+  pub below-next : Falling s (restsOf ss n) best i → length ss ≡ 4096 → n ≤ 4096 → i < n → {r : Soft} → r ≡ getD ss i noSoft → {b : ℕ} → b ≡ raisedBy s (r .weight) best → Falling s (restsOf ss n) b (i + 1)
+  below-next f h l k er eb = fall-next f (omega (arith, rests-length ss n h l)) (ap (λ (r : Soft). r .weight) er ∙ rests-at ss n i k) eb
+
+  pub below-end : Falling s (restsOf ss n) best i → length ss ≡ 4096 → n ≤ 4096 → n ≤ i → best ≡ under s (restsOf ss n)
+  below-end f h l k = fall-end f (omega (arith, rests-length ss n h l))
 
 -- ---- the assumed places
 

@@ -42,6 +42,10 @@ unpackedFrom i (r ∷ rs) c = unpackedFrom (i + 1) rs (putColumns i r c)
 abbrev pub unpackedOf : List Soft → ℕ → Columns → Columns
 unpackedOf ss count c = unpackedFrom 0 (take count ss) c
 
+-- their remaining weights
+abbrev pub restsOf : List Soft → ℕ → List ℕ
+restsOf ss count = map (λ (r : Soft). r .weight) (take count ss)
+
 -- the greater of w and the best so far, if w is below s
 abbrev pub raisedBy : ℕ → ℕ → ℕ → ℕ
 raisedBy s w best = pick (ltb w s) (max w best) best

@@ -1,5 +1,6 @@
 // The tables of the level in work, and opening it from the entries.
 use crate::soft::Soft;
+use crate::softs::put_soft;
 ghost use mathlib.Core.Path.{_≡_};
 ghost use Prim.Native.Nat.{_≤_, _<_};
 ghost use lib.IntN.{pos};
@@ -80,7 +81,7 @@ pub fn opened<'a>(
     let mut i: usize = 0;
     while i < count {
         if counts(priorities, weights, i, priority) {
-            t.softs[k] = soft_of(literals, weights, i);
+            put_soft(&mut t.softs, k, soft_of(literals, weights, i));
             k += 1;
         }
         i += 1;

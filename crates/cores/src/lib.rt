@@ -4,4 +4,5 @@ pub mod level;
 pub mod query;
 pub mod recording;
 pub mod soft;
+pub mod softs;
 pub mod table;

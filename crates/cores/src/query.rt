@@ -1,5 +1,6 @@
 // What a query needs of the level's tables: columns of numbers, the next stratum, the assumed soft literals.
 use crate::soft::Soft;
+use crate::softs::soft_at;
 use crate::table::at;
 ghost use mathlib.Core.Path.{_≡_};
 ghost use Prim.Native.Nat.{ℕ, _<_, _≤_};
@@ -7,7 +8,7 @@ ghost use lib.ListN.{length, getD};
 ghost use lib.IntN.{pos, negℤ, natAbs};
 ghost use Rattle.asp.specs.Program.{All};
 ghost use Rattle.cores.specs.Level.{under};
-ghost use Rattle.cores.specs.Columns.{columns, raisedBy, putColumns, unpackedOf, listed, assumedOf, pairs, paired, putEntry, entriesAmong, entriesOf};
+ghost use Rattle.cores.specs.Columns.{columns, raisedBy, putColumns, unpackedOf, restsOf, listed, assumedOf, pairs, paired, putEntry, entriesAmong, entriesOf};
 
 // One record's fields at place i.
 fn put_columns(
@@ -42,7 +43,7 @@ pub fn unpack(
 {
     let mut i: usize = 0;
     while i < count {
-        let r = softs[i];
+        let r = soft_at(&softs, i);
         put_columns(r, i, literals, cores, indices, weights);
         i += 1;
     }
@@ -75,6 +76,21 @@ pub fn next_stratum(weights: &[u32], s: u32) -> u32
     let mut i: usize = 0;
     while i < weights.len() {
         best = raised(best, weight_at(weights, i), s);
+        i += 1;
+    }
+    best
+}
+
+// The greatest remaining weight below `s` among the first `count` records; 0 if there is none.
+pub fn stratum_below(softs: [Soft; 4096], count: usize, s: u32) -> u32
+    requires { ⌜ count ≤ 4096 ⌝ }
+    ensures { λ r. ⌜ r ≡ under s (restsOf softs count) ⌝ }
+{
+    let mut best: u32 = 0;
+    let mut i: usize = 0;
+    while i < count {
+        let r = soft_at(&softs, i);
+        best = raised(best, r.weight, s);
         i += 1;
     }
     best

@@ -1,6 +1,8 @@
 // Recording a core.
 use crate::level::LevelTables;
 use crate::soft::Soft;
+use crate::softs::put_soft;
+use crate::softs::soft_at;
 ghost use mathlib.Core.Path.{_≡_};
 ghost use mathlib.Core.Bool.{true, false};
 ghost use Prim.Native.Nat.{ℕ, _+_, _-_, _<_, _≤_};
@@ -19,8 +21,8 @@ fn lose(softs: [Soft; 4096], members: &[u16], s: u32) -> [Soft; 4096]
     let mut i: usize = 0;
     while i < members.len() {
         let m = crate::table::at(members, i);
-        let r = t[m];
-        t[m] = crate::soft::lighter(r, s);
+        let r = soft_at(&t, m);
+        put_soft(&mut t, m, crate::soft::lighter(r, s));
         i += 1;
     }
     t
@@ -35,7 +37,7 @@ fn add(softs: [Soft; 4096], k: usize, n: usize, core: usize, s: u32) -> [Soft; 4
     let mut t = softs;
     let mut i: usize = 0;
     while i < n {
-        t[k + i] = crate::soft::of_core(core, i + 1, s);
+        put_soft(&mut t, k + i, crate::soft::of_core(core, i + 1, s));
         i += 1;
     }
     t

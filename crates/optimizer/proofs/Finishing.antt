@@ -10,23 +10,18 @@ use mir.Val.{SFits, toZ, ofZ}
 use mir.Facts.{toZ-ofZ}
 use lib.Dec.{eqb, ltb}
 use lib.IntN.{ℤ, pos, natAbs}
-use lib.ListN.{getD, take, List·getD-map}
-use lib.Seq.{getD-take}
+use lib.ListN.{getD, take}
 use borrow.Author.Tests.{eq-eqb, ne-eqb, lt-ltb, le-ltb}
 use Rattle.asp.specs.Sets.{pick}
 use Rattle.asp.specs.Program.{Entry, LiteralIn}
 use Rattle.asp.specs.Tables.{entryAt}
 use Rattle.asp.proofs.Spans.{length-span, all-map}
 use Rattle.asp.specs.Cost.{level, cheaper}
-use Rattle.cores.specs.declared.soft.Soft.{Soft}
 use Rattle.cores.specs.declared.level.LevelTables.{LevelTables}
 use Rattle.cores.specs.Level.{under, greatest, FormedEntries}
 use Rattle.cores.specs.Level as lev
-use Rattle.cores.specs.Columns.{raisedBy}
-use Rattle.cores.specs.Tables.{noSoft, levelOf, openedTables, FormedTables, Tried, tried, triedTables}
-use Rattle.cores.proofs.Links.{rests-count}
+use Rattle.cores.specs.Tables.{levelOf, openedTables, FormedTables, Tried, tried, triedTables}
 use Rattle.cores.proofs.Kept.{level-formed, opened-means, opened-sound, first-stratum}
-use Rattle.cores.proofs.Queries.{Falling, fall-start, fall-next, fall-end, raised-yes, raised-kept, raised-no}
 use Rattle.optimizer.specs.Source.{Levels, many, entriesIn, levelAt, FormedLevels}
 use Rattle.optimizer.specs.declared.state.Work.{Work}
 use Rattle.optimizer.specs.declared.state.Phase.{Phase}
@@ -62,39 +57,6 @@ module _ {uppers : List ℕ} {j k i : ℕ} where
   pub seek-end : Seeking uppers j k i → k ≤ i → i ≡ nextFrom uppers j (k - j)
   unfolding nextFrom
   seek-end s h = let q : k - i ≡ 0 = omega arith in rw q at (s .rest)
-
--- ---- the next stratum, over the table of soft literals
-
-pub record Sinking (s : ℕ) (t : LevelTables) (best i : ℕ) : Type 0 where
-  pub formed : FormedTables t
-  pub falling : Falling s (levelOf t .rests) best i
-
-pub sink-start : (s : ℕ) {t : LevelTables} → FormedTables t → Sinking s t 0 0
-sink-start s {t} f = record { formed = f; falling = fall-start s (levelOf t .rests) }
-
-module _ {s : ℕ} {t : LevelTables} {best i : ℕ} (k : Sinking s t best i) where
-  pub sink-in : i < t .count → i < 4096
-  sink-in h = omega (arith, k .formed .softs-few)
-
-  weight-at : i < t .count → getD (t .softs) i noSoft .weight ≡ getD (levelOf t .rests) i 0
-  weight-at h =
-      ap (λ (r : Soft). r .weight) (sym (getD-take (t .count) (t .softs) i noSoft h))
-      ∙ sym (List·getD-map (λ (r : Soft). r .weight) (take (t .count) (t .softs)) i noSoft)
-
-  sink-by : i < t .count → {b : ℕ} → b ≡ raisedBy s (getD (t .softs) i noSoft .weight) best → Sinking s t b (i + 1)
-  sink-by h e = record { formed = k .formed; falling = fall-next (k .falling) (omega (arith, rests-count t (k .formed))) (weight-at h) e }
-
-  pub sink-more : i < t .count → getD (t .softs) i noSoft .weight < s → best < getD (t .softs) i noSoft .weight → Sinking s t (getD (t .softs) i noSoft .weight) (i + 1)
-  sink-more h a b = sink-by h (raised-yes s (getD (t .softs) i noSoft .weight) best a b)
-
-  pub sink-kept : i < t .count → getD (t .softs) i noSoft .weight < s → getD (t .softs) i noSoft .weight ≤ best → Sinking s t best (i + 1)
-  sink-kept h a b = sink-by h (raised-kept s (getD (t .softs) i noSoft .weight) best a b)
-
-  pub sink-past : i < t .count → s ≤ getD (t .softs) i noSoft .weight → Sinking s t best (i + 1)
-  sink-past h a = sink-by h (raised-no s (getD (t .softs) i noSoft .weight) best a)
-
-  pub sink-end : t .count ≤ i → best ≡ under s (levelOf t .rests)
-  sink-end h = fall-end (k .falling) (omega (arith, rests-count t (k .formed)))
 
 -- ---- the best model
 

@@ -26,20 +26,8 @@ fn next_stratum(t: LevelTables, s: u32) -> u32
     requires { ⌜ FormedTables t ⌝ }
     ensures { λ r. ⌜ r ≡ under s (levelOf t .rests) ⌝ }
 {
-    let count = t.count;
-    let mut best: u32 = 0;
-    let mut i: usize = 0;
-    while i < count {
-        let r = t.softs[i];
-        let w = r.weight;
-        if w < s {
-            if best < w {
-                best = w;
-            }
-        }
-        i += 1;
-    }
-    best
+    let softs = t.softs;
+    cores::query::stratum_below(softs, t.count, s)
 }
 
 // The first level from place j on, below k, on which the best model costs more than 0; k if there is none.
