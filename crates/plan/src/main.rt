@@ -84,22 +84,28 @@ fn symbols(s: Service)
 {
     let mut i: usize = 0;
     while i < 512 {
-        symbol(s, i);
+        if !symbol(s, i) {
+            return;
+        }
         i += 1;
     }
 }
 
-fn symbol(s: Service, i: usize)
+// Prints a symbol if it is shown; whether there may be more.
+fn symbol(s: Service, i: usize) -> bool
     requires { ⌜ Sound s ⌝ }
 {
     let r = planner::symbol::shown(s, i);
     let a = r.answer;
     match a {
-        Showing::Shown => print_symbol(s, i),
-        Showing::Hidden => {}
-        Showing::NotLoaded => {}
-        Showing::NoSymbol => {}
-        Showing::NoModel => {}
+        Showing::Shown => {
+            print_symbol(s, i);
+            true
+        }
+        Showing::Hidden => true,
+        Showing::NotLoaded => false,
+        Showing::NoSymbol => false,
+        Showing::NoModel => false,
     }
 }
 

@@ -10,7 +10,7 @@ use lib.ListN.{length, getD}
 use Rattle.asp.specs.Sets.{pick}
 use Rattle.asp.specs.Literal.{sameℤ}
 use Rattle.asp.specs.Tables.{span, Row, rowAt}
-use Rattle.search.specs.Places.{truthAt}
+use Rattle.search.specs.Places.{truthOf}
 use Rattle.search.specs.declared.scan.Rest.{Rest}
 use Rattle.search.specs.declared.scan.Rest.the-variants.{All, One, Off}
 use Rattle.search.specs.declared.scan.Found.{Found}
@@ -45,8 +45,11 @@ freeOf (One f) l = pick (sameℤ f l) (One f) Off
 freeOf Off l = Off
 
 -- one more condition, by its truth
+abbrev pub meetValue : Rest → ℤ → ℕ → Rest
+meetValue s l x = pick (eqb (truthOf l x) 1) s (pick (eqb (truthOf l x) 0) (freeOf s l) Off)
+
 abbrev pub meetOf : List ℕ → Rest → ℤ → Rest
-meetOf value s l = pick (eqb (truthAt value l) 1) s (pick (eqb (truthAt value l) 0) (freeOf s l) Off)
+meetOf value s l = meetValue s l (getD value (natAbs l) 0)
 
 -- what is left of conditions: nothing (all are true), one literal, or more, or one is false
 unfoldable pub meets : List ℕ → Rest → List ℤ → Rest

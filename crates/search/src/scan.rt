@@ -6,7 +6,7 @@ ghost use mathlib.Core.Path.{_≡_};
 ghost use Prim.Native.Nat.{ℕ, _+_, _*_, _<_, _≤_};
 ghost use lib.ListN.{length, getD};
 ghost use lib.IntN.{pos, natAbs};
-ghost use Rattle.search.specs.Scan.{rules, Readable, condAt, meetOf, begins, freeOf, isAll, isOff, noteOf, scanOf};
+ghost use Rattle.search.specs.Scan.{rules, Readable, condAt, meetValue, meetOf, begins, freeOf, isAll, isOff, noteOf, scanOf};
 
 // What is left of a rule's conditions: nothing (all are on the trail), one undecided literal, or too much.
 pub enum Rest {
@@ -49,19 +49,26 @@ fn free(rest: Rest, l: i32) -> Rest
     }
 }
 
+// One more condition, whose atom has the value x.
+fn meet_value(rest: Rest, l: i32, x: u8) -> Rest
+    ensures { λ r. ⌜ r ≡ meetValue rest l x ⌝ }
+{
+    if x == 0 {
+        return free(rest, l);
+    }
+    if value::side(l) == x {
+        return rest;
+    }
+    Rest::Off
+}
+
 // One more condition.
 fn meet(value: &[u8; 1025], rest: Rest, l: i32) -> Rest
     requires { ⌜ natAbs l ≤ 1024 ⌝ }
     ensures { λ r. ⌜ r ≡ meetOf (now (value .entry)) rest l ⌝ }
 {
-    let x = value::truth(value, l);
-    if x == 1 {
-        return rest;
-    }
-    if x == 0 {
-        return free(rest, l);
-    }
-    Rest::Off
+    let a = literal::atom(l);
+    meet_value(rest, l, value[a])
 }
 
 // The condition at place k is met.

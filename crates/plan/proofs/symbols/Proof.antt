@@ -20,6 +20,9 @@ loop-holds c = search needs
 symbol-requires : tie.Need-symbol-requires Inv-loop μ-loop
 symbol-requires c κs = search needs
 
+returns : tie.Need-returns Inv-loop μ-loop
+returns c = search needs
+
 add-i : tie.Need-add-i Inv-loop μ-loop
 add-i c = search needs
 
@@ -29,10 +32,10 @@ loop-less c = omega arith
 loop-again : tie.Need-loop-again Inv-loop μ-loop
 loop-again c = search needs
 
-returns : tie.Need-returns Inv-loop μ-loop
-returns c = search needs
+returns-2 : tie.Need-returns-2 Inv-loop μ-loop
+returns-2 c = search needs
 
 pub symbols-spec : {M : Type 1} → statement M
 symbols-spec =
     tie.close
-    (tie.spec Inv-loop μ-loop loop-holds symbol-requires add-i loop-less loop-again returns)
+    (tie.spec Inv-loop μ-loop loop-holds symbol-requires returns add-i loop-less loop-again returns-2)
