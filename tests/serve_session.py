@@ -7,15 +7,8 @@ import os
 
 from service import Service
 
-PLAN = """asp 1 0 0
-1 1 2 1 2 0 0
-1 0 1 3 0 2 1 2
-1 0 0 0 2 -1 -2
-2 1 2 1 2 2 3
-4 1 a 1 1
-4 1 b 1 2
-0
-"""
+CRATES = os.path.join(os.path.dirname(os.path.abspath(__file__)), '..', 'crates')
+PLAN = open(os.path.join(CRATES, 'plan', 'data', 'plan.aspif')).read()
 
 
 def load(text):
@@ -76,7 +69,7 @@ SESSION = [
 def main():
     stdin = b''.join(c if isinstance(c, bytes) and c.startswith(b'load ') else (c.encode('latin1') if isinstance(c, str) else c) + b'\n' for c in SESSION)
     answers = [a or b'' for _, a in Service().answers(stdin)]
-    crate = os.path.join(os.path.dirname(os.path.abspath(__file__)), '..', 'crates', 'serve')
+    crate = os.path.join(CRATES, 'serve')
     for name, content in ('stdin', stdin), ('stdout', b''.join(answers)):
         with open(os.path.join(crate, name), 'wb') as f:
             f.write(content)
