@@ -13,7 +13,7 @@ use mir.Facts.{or-yes}
 use borrow.Author.Count.{below-more}
 use Rattle.asp.specs.Sets.{Set, Sub, In, Only, same, setOf, pick}
 use Rattle.asp.specs.Program.{Rule, All, RuleIn}
-use Rattle.asp.specs.Stable.{ruleAdds, adds, violated, anyViolated, Closed, closure}
+use Rattle.asp.specs.Stable.{ruleAdds, adds, constraintFails, anyViolated, Closed, closure}
 use Rattle.asp.specs.Tables.{span, rowAt, ruleAt, rulesOf, Formed}
 use Rattle.asp.specs.Growth.{Grown, KeptBy, RuleFormed, RulesFormed, stabilityOf}
 use Rattle.asp.specs.declared.stable.Stability.{Stability}
@@ -38,11 +38,11 @@ module _ (M : Set) (pool : List ℤ) (rows : List ℕ) where
   unviolated-start count = record { rest = rw sub-zero }
 
 module _ {M : Set} {pool : List ℤ} {rows : List ℕ} {count r : ℕ} (u : Unviolated M pool rows count r) where
-  pub unviolated-next : r < count → {b : Bool} → b ≡ violated M (ruleAt pool (rowAt rows r)) → b ≡ false → Unviolated M pool rows count (r + 1)
+  pub unviolated-next : r < count → {b : Bool} → b ≡ constraintFails M (ruleAt pool (rowAt rows r)) → b ≡ false → Unviolated M pool rows count (r + 1)
   unfolding anyViolated
   unviolated-next h e q = record { rest = rw (span-more (at M pool rows) r count h, ← e, q) at (u .rest) }
 
-  pub violated-here : r < count → {b : Bool} → b ≡ violated M (ruleAt pool (rowAt rows r)) → b ≡ true → true ≡ anyViolated M (rulesOf pool rows count)
+  pub violated-here : r < count → {b : Bool} → b ≡ constraintFails M (ruleAt pool (rowAt rows r)) → b ≡ true → true ≡ anyViolated M (rulesOf pool rows count)
   unfolding anyViolated
   violated-here h e q = rw (span-more (at M pool rows) r count h, ← e, q) at (u .rest)
 

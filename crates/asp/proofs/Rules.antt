@@ -12,7 +12,7 @@ use mir.Facts.{and-yes, yes-and, or-yes}
 use borrow.Author.Tests.{eq-eqb, ne-eqb}
 use Rattle.asp.specs.Sets.{Set, Sub, In, setOf, pick}
 use Rattle.asp.specs.Program.{Literal, LiteralIn, Body, normal, Head, constraint, plain, choice, Rule, All, HeadIn, RuleIn}
-use Rattle.asp.specs.Stable.{allHold, bodyHolds, member, headAdds, ruleAdds, adds, violated, anyViolated, Closed}
+use Rattle.asp.specs.Stable.{allHold, bodyHolds, member, headAdds, ruleAdds, adds, constraintFails, anyViolated, Closed}
 use Rattle.asp.specs.Tables.{span, named, literalsAt, atomsAt, Row, rowAt, plainHead, headAt, ruleAt, rulesOf, RowIn, Formed}
 use Rattle.asp.specs.Growth.{Grown, Chosen, KeptBy, RuleFormed, RulesFormed}
 use Rattle.asp.proofs.Stability.{body-mono, yes-or-left, yes-or-right}
@@ -65,14 +65,14 @@ module _ {pool : List ℤ} {rows : List ℕ} {r : ℕ} (w : RuleFormed pool rows
 -- ---- whether it is a violated constraint
 
 module _ (M : Set) (pool : List ℤ) (rows : List ℕ) (r : ℕ) where
-  pub choice-unviolated : {k : ℕ} → k ≡ getD rows (r * 4) 0 → k ≡ 1 → false ≡ violated M (ruleAt pool (rowAt rows r))
+  pub choice-unviolated : {k : ℕ} → k ≡ getD rows (r * 4) 0 → k ≡ 1 → false ≡ constraintFails M (ruleAt pool (rowAt rows r))
   choice-unviolated ek q = rw (head-choice pool (rowAt rows r) (sym ek ∙ q))
 
-  pub plain-unviolated : {k h : ℕ} → k ≡ getD rows (r * 4) 0 → (k ≡ 1 → ⊥) → h ≡ getD rows (r * 4 + 2) 0 → (h ≡ 0 → ⊥) → false ≡ violated M (ruleAt pool (rowAt rows r))
+  pub plain-unviolated : {k h : ℕ} → k ≡ getD rows (r * 4) 0 → (k ≡ 1 → ⊥) → h ≡ getD rows (r * 4 + 2) 0 → (h ≡ 0 → ⊥) → false ≡ constraintFails M (ruleAt pool (rowAt rows r))
   plain-unviolated ek f eh g = rw (head-plain pool (rowAt rows r) (λ q. f (ek ∙ q)) (λ q. g (eh ∙ q)))
 
   pub constraint-violated : {k f h b : ℕ} {x : Bool} → k ≡ getD rows (r * 4) 0 → (k ≡ 1 → ⊥) → h ≡ getD rows (r * 4 + 2) 0 → h ≡ 0 → f ≡ getD rows (r * 4 + 1) 0
-      → b ≡ getD rows (r * 4 + 3) 0 → x ≡ allHold M M (literalsAt pool (f + h) b) → x ≡ violated M (ruleAt pool (rowAt rows r))
+      → b ≡ getD rows (r * 4 + 3) 0 → x ≡ allHold M M (literalsAt pool (f + h) b) → x ≡ constraintFails M (ruleAt pool (rowAt rows r))
   constraint-violated ek f eh q ef eb e = rw (head-none pool (rowAt rows r) (λ q′. f (ek ∙ q′)) (sym eh ∙ q)) (rw (ef, eh, eb) at e)
 
 -- ---- what it adds

@@ -59,12 +59,12 @@ isConstraint (plain a) = false
 isConstraint (choice as′) = false
 
 -- the rule is a constraint whose body holds in M
-abbrev pub violated : Set → Rule → Bool
-violated M r = isConstraint (r .head) && bodyHolds M M (r .body)
+abbrev pub constraintFails : Set → Rule → Bool
+constraintFails M r = isConstraint (r .head) && bodyHolds M M (r .body)
 
 unfoldable pub anyViolated : Set → List Rule → Bool
 anyViolated M [] = false
-anyViolated M (r ∷ rs) = violated M r || anyViolated M rs
+anyViolated M (r ∷ rs) = constraintFails M r || anyViolated M rs
 
 -- X is closed: what the rules add to X is in X
 abbrev pub Closed : List Rule → Set → Set → Type 0

@@ -5,7 +5,7 @@ ghost use Prim.Native.Nat.{ℕ, _+_, _*_, _≤_, _<_};
 ghost use lib.IntN.{ℤ, pos};
 ghost use lib.ListN.{length, getD, set, replicate};
 ghost use Rattle.asp.specs.Sets.{setOf, same, In};
-ghost use Rattle.asp.specs.Stable.{Closed, violated, anyViolated, closure};
+ghost use Rattle.asp.specs.Stable.{Closed, constraintFails, anyViolated, closure};
 ghost use Rattle.asp.specs.Program.{All};
 ghost use Rattle.asp.specs.Tables.{atomsAt, named, rowAt, ruleAt, rulesOf, Formed};
 ghost use Rattle.asp.specs.Growth.{Grown, ChosenAtom, Chosen, KeptBy, RuleFormed, RulesFormed, stabilityOf};
@@ -32,7 +32,7 @@ fn add(x: &mut [u8; 1025], a: usize) -> bool
     true
 }
 
-fn either(a: bool, b: bool) -> bool
+pub fn either(a: bool, b: bool) -> bool
     ensures { λ r. ⌜ r ≡ (a || b) ⌝ }
 {
     if a { true } else { b }
@@ -68,7 +68,13 @@ fn add_choice<'a>(pool: &'a [i32], i: usize, k: usize, m: &'a [u8], x: &mut [u8;
 }
 
 // Adds what a rule adds, its negated atoms and its choice looked up in `m`; whether anything is new.
-fn add_rule<'a>(pool: &'a [i32], rows: &'a [u16], r: usize, m: &'a [u8], x: &mut [u8; 1025]) -> bool
+pub fn add_rule<'a>(
+    pool: &'a [i32],
+    rows: &'a [u16],
+    r: usize,
+    m: &'a [u8],
+    x: &mut [u8; 1025],
+) -> bool
     requires { ⌜ RuleFormed (now pool) (now rows) r × (1024 < length (now m)) × (length (now x) ≡ 1025) ⌝ }
     ensures { λ b. ⌜ Grown (KeptBy (setOf (now (m .entry))) (ruleAt (now (pool .entry)) (rowAt (now (rows .entry)) r))) (now (x .entry)) (now (x .exit)) b ⌝ }
 {
@@ -132,7 +138,7 @@ fn close<'a>(
 // Whether a rule is a constraint whose body holds in `m`.
 fn is_violated<'a>(pool: &'a [i32], rows: &'a [u16], r: usize, m: &'a [u8]) -> bool
     requires { ⌜ RuleFormed (now pool) (now rows) r × (1024 < length (now m)) ⌝ }
-    ensures { λ b. ⌜ b ≡ violated (setOf (now (m .entry))) (ruleAt (now (pool .entry)) (rowAt (now (rows .entry)) r)) ⌝ }
+    ensures { λ b. ⌜ b ≡ constraintFails (setOf (now (m .entry))) (ruleAt (now (pool .entry)) (rowAt (now (rows .entry)) r)) ⌝ }
 {
     let at = r * 4;
     let choice = table::number_at(rows, at);
@@ -174,7 +180,7 @@ fn agree<'a>(m: &'a [u8], x: &'a [u8], a: usize) -> bool
 }
 
 // Whether two sets agree on the atoms 1 to n.
-fn same<'a>(m: &'a [u8], x: &'a [u8], n: usize) -> bool
+pub fn same<'a>(m: &'a [u8], x: &'a [u8], n: usize) -> bool
     requires { ⌜ (n ≤ 1024) × (1024 < length (now m)) × (1024 < length (now x)) ⌝ }
     ensures { λ r. ⌜ r ≡ same n (setOf (now (m .entry))) (setOf (now (x .entry))) ⌝ }
 {

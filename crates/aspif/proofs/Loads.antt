@@ -111,6 +111,7 @@ module _ (p : Stored) (s : List ℕ) (sound : Sound (listsOf p) (p .counts)) (e 
         sized = sound .sized;
         within = within;
         text = omega (arith, accepted-short s (storedProgram p) (storedText p) e, stored-short s (storedProgram p) (storedText p) e, span-length (λ (j : ℕ). getD (p .text) j 0) 0 (p .counts .text));
+        size = omega (arith, sound .rules .size, within .used);
         atoms = sound .atoms;
         formed = record { few = omega (arith, atoms-bound (storedProgram p) (good .fine .atoms), sound .atoms); long = omega (arith, within .rules, sound .sized .rules); row = row-in; atoms = named .rules };
         named = named;

@@ -16,11 +16,11 @@ use Rattle.asp.specs.Sets.{Set, pick}
 use Rattle.asp.specs.Program.{All}
 use Rattle.asp.specs.Stable.{holds}
 use Rattle.asp.specs.Tables.{span}
-use Rattle.cores.specs.Sums.{ind, count}
+use Rattle.cores.specs.Sums.{ind, sumOver}
 use Rattle.cores.specs.Soft.{Kind, entry, derived, coreNumber, coreOf, kindAt, countBy, judge, violated, Earlier, InOrder}
 use Rattle.cores.specs.declared.judge.Judged.{Judged}
 use Rattle.cores.specs.declared.judge.Judged.the-variants.{Met, Violated}
-use Rattle.cores.specs.Judging.{Judging, judging, kindFrom, kindIn, kindsIn, membersIn, coresIn, violatedIn, countIn, Formed, Known, IsCounted, Stays, Answers, Counts, firstViolated}
+use Rattle.cores.specs.Judging.{Judging, judging, kindFrom, kindIn, kindsIn, membersIn, coresIn, violatedAt, countIn, FormedJudging, Known, IsCounted, Stays, Answers, Counts, firstViolated}
 use Rattle.cores.proofs.Sums.{below-or}
 use Rattle.cores.proofs.Judgements.{unfolds}
 use Rattle.cores.proofs.Members.{at-all, all-at}
@@ -48,7 +48,7 @@ module _ (t : Judging) where
   pub kinds-many : length (kindsIn t) ≡ length (t .literals)
   kinds-many = length-span (kindIn t) 0 (length (t .literals))
 
-  module _ (f : Formed t) where
+  module _ (f : FormedJudging t) where
     number-in : (p : ℕ) → coreNumber (kindAt (kindsIn t) p) ≤ length (coresIn t)
     number-in p = go (below-or p (length (t .literals)))
       where
@@ -90,14 +90,14 @@ module _ (t : Judging) where
 
     -- ---- judging one soft literal
 
-    judged-in : (M : Set) (p : ℕ) → p < length (t .literals) → violatedIn t M p ≡ judge M (coresIn t) (violatedIn t M) (kindIn t p)
-    judged-in M p h = unfolds M (kindsIn t) (coresIn t) formed-order p ∙ ap (judge M (coresIn t) (violatedIn t M)) (kind-at p h)
+    judged-in : (M : Set) (p : ℕ) → p < length (t .literals) → violatedAt t M p ≡ judge M (coresIn t) (violatedAt t M) (kindIn t p)
+    judged-in M p h = unfolds M (kindsIn t) (coresIn t) formed-order p ∙ ap (judge M (coresIn t) (violatedAt t M)) (kind-at p h)
 
-    pub entry-in : (M : Set) (p : ℕ) → p < length (t .literals) → getD (t .cores) p 0 ≡ 0 → violatedIn t M p ≡ holds M (getD (t .literals) p (pos 0))
-    entry-in M p h e = judged-in M p h ∙ ap (λ (b : Bool). judge M (coresIn t) (violatedIn t M) (pick b (entry (getD (t .literals) p (pos 0))) (derived (getD (t .cores) p 0) (getD (t .indices) p 0)))) (eq-eqb (getD (t .cores) p 0) 0 e)
+    pub entry-in : (M : Set) (p : ℕ) → p < length (t .literals) → getD (t .cores) p 0 ≡ 0 → violatedAt t M p ≡ holds M (getD (t .literals) p (pos 0))
+    entry-in M p h e = judged-in M p h ∙ ap (λ (b : Bool). judge M (coresIn t) (violatedAt t M) (pick b (entry (getD (t .literals) p (pos 0))) (derived (getD (t .cores) p 0) (getD (t .indices) p 0)))) (eq-eqb (getD (t .cores) p 0) 0 e)
 
-    pub derived-in : (M : Set) (p : ℕ) → p < length (t .literals) → (getD (t .cores) p 0 ≡ 0 → ⊥) → violatedIn t M p ≡ ltb (getD (t .indices) p 0) (countIn t M (getD (t .cores) p 0))
-    derived-in M p h e = judged-in M p h ∙ ap (λ (b : Bool). judge M (coresIn t) (violatedIn t M) (pick b (entry (getD (t .literals) p (pos 0))) (derived (getD (t .cores) p 0) (getD (t .indices) p 0)))) (ne-eqb (getD (t .cores) p 0) 0 e)
+    pub derived-in : (M : Set) (p : ℕ) → p < length (t .literals) → (getD (t .cores) p 0 ≡ 0 → ⊥) → violatedAt t M p ≡ ltb (getD (t .indices) p 0) (countIn t M (getD (t .cores) p 0))
+    derived-in M p h e = judged-in M p h ∙ ap (λ (b : Bool). judge M (coresIn t) (violatedAt t M) (pick b (entry (getD (t .literals) p (pos 0))) (derived (getD (t .cores) p 0) (getD (t .indices) p 0)))) (ne-eqb (getD (t .cores) p 0) 0 e)
 
     -- the members of core j
     pub core-slice : (j : ℕ) → 1 ≤ j → j < length (t .ends) → coreOf (coresIn t) j ≡ slice (getD (t .ends) (j - 1) 0) (getD (t .ends) j 0) (t .members)
@@ -109,12 +109,12 @@ module _ (t : Judging) where
 -- ---- what `violated` asks and gives
 
 module _ {t : Judging} {M : Set} {p : ℕ} where
-  pub judge-entry : Formed t → {counts : List ℕ} → Known t M counts → p < length (t .literals) → {j : ℕ} → j ≡ getD (t .cores) p 0 → j ≡ 0
-      → {r : Bool} → r ≡ holds M (getD (t .literals) p (pos 0)) → Answers t M counts r (violatedIn t M p) counts
+  pub judge-entry : FormedJudging t → {counts : List ℕ} → Known t M counts → p < length (t .literals) → {j : ℕ} → j ≡ getD (t .cores) p 0 → j ≡ 0
+      → {r : Bool} → r ≡ holds M (getD (t .literals) p (pos 0)) → Answers t M counts r (violatedAt t M p) counts
   judge-entry f k h ej z e = record { is = e ∙ sym (entry-in t f M p h (sym ej ∙ z)); known = k; stays = λ i w. w }
 
-  pub judge-derived : Formed t → p < length (t .literals) → {j : ℕ} → j ≡ getD (t .cores) p 0 → (j ≡ 0 → ⊥) → {n : ℕ} {before after : List ℕ} → Counts t M before n j after
-      → {i : ℕ} → i ≡ getD (t .indices) p 0 → Answers t M before (ltb i n) (violatedIn t M p) after
+  pub judge-derived : FormedJudging t → p < length (t .literals) → {j : ℕ} → j ≡ getD (t .cores) p 0 → (j ≡ 0 → ⊥) → {n : ℕ} {before after : List ℕ} → Counts t M before n j after
+      → {i : ℕ} → i ≡ getD (t .indices) p 0 → Answers t M before (ltb i n) (violatedAt t M p) after
   judge-derived f h {j} ej z {n} {before} {after} a {i} ei = record {
     is = ap₂ ltb ei (a .is ∙ ap (countIn t M) ej) ∙ sym (derived-in t f M p h (λ q. z (ej ∙ q)));
     known = a .known;
@@ -137,9 +137,9 @@ pub record Counting (t : Judging) (M : Set) (j end : ℕ) (before counts : List 
   pub from : getD (t .ends) (j - 1) 0 ≤ k
   pub few : n ≤ k
   pub inside : k ≤ length (t .members)
-  pub rest : n + countBy (violatedIn t M) (slice k end (t .members)) ≡ countIn t M j
+  pub rest : n + countBy (violatedAt t M) (slice k end (t .members)) ≡ countIn t M j
 
-pub count-start : {t : Judging} {M : Set} → Formed t → {counts : List ℕ} → Known t M counts → {j : ℕ} → 1 ≤ j → j < length (t .ends)
+pub count-start : {t : Judging} {M : Set} → FormedJudging t → {counts : List ℕ} → Known t M counts → {j : ℕ} → 1 ≤ j → j < length (t .ends)
     → {e : ℕ} → e ≡ getD (t .ends) j 0 → {k : ℕ} → k ≡ getD (t .ends) (j - 1) 0 → Counting t M j e counts counts k 0
 count-start {t} {M} f {counts} o {j} l h {e} ee {k} ek = record {
   known = o;
@@ -148,7 +148,7 @@ count-start {t} {M} f {counts} o {j} l h {e} ee {k} ek = record {
   from = omega arith;
   few = omega arith;
   inside = omega (arith, f .end-in (j - 1));
-  rest = zero-add _ ∙ ap₂ (λ (a b : ℕ). countBy (violatedIn t M) (slice a b (t .members))) ek ee ∙ sym (ap (countBy (violatedIn t M)) (core-slice t f j l h));
+  rest = zero-add _ ∙ ap₂ (λ (a b : ℕ). countBy (violatedAt t M) (slice a b (t .members))) ek ee ∙ sym (ap (countBy (violatedAt t M)) (core-slice t f j l h));
 }
 
 -- the count that is kept
@@ -180,21 +180,21 @@ kept-after t M counts j n o h q = record { long = rw length-set (o .long); kept 
 
 module _ {t : Judging} {M : Set} {j e : ℕ} {before counts : List ℕ} {k n : ℕ} where
   -- the place of a member
-  pub member-place : Counting t M j e before counts k n → Formed t → k < e → k < length (t .members)
+  pub member-place : Counting t M j e before counts k n → FormedJudging t → k < e → k < length (t .members)
   member-place c f h = omega (arith, f .end-in j, c .ends)
 
-  pub member-soft : Counting t M j e before counts k n → Formed t → k < e → {m : ℕ} → m ≡ getD (t .members) k 0 → m < length (t .literals)
+  pub member-soft : Counting t M j e before counts k n → FormedJudging t → k < e → {m : ℕ} → m ≡ getD (t .members) k 0 → m < length (t .literals)
   member-soft c f h em = rw em (f .member-in k (member-place c f h))
 
   -- its core number is less
-  pub member-falls : Counting t M j e before counts k n → Formed t → 1 ≤ j → k < e → {m : ℕ} → m ≡ getD (t .members) k 0 → getD (t .cores) m 0 < j
+  pub member-falls : Counting t M j e before counts k n → FormedJudging t → 1 ≤ j → k < e → {m : ℕ} → m ≡ getD (t .members) k 0 → getD (t .cores) m 0 < j
   member-falls c f l h {m} em =
       let i : j - 1 + 1 ≡ j = omega arith in
       let q : k < getD (t .ends) (j - 1 + 1) 0 = rw i (omega (arith, c .ends)) in
       let x : getD (t .cores) (getD (t .members) k 0) 0 ≤ j - 1 = f .falls (j - 1) k (c .from) q in
       rw em (omega arith)
 
-  pub count-yes : Counting t M j e before counts k n → Formed t → k < e → {m : ℕ} → m ≡ getD (t .members) k 0 → {b : Bool} {after : List ℕ} → Answers t M counts b (violatedIn t M m) after → b ≡ true
+  pub count-yes : Counting t M j e before counts k n → FormedJudging t → k < e → {m : ℕ} → m ≡ getD (t .members) k 0 → {b : Bool} {after : List ℕ} → Answers t M counts b (violatedAt t M m) after → b ≡ true
       → {n₁ : ℕ} → n₁ ≡ n + 1 → Counting t M j e before after (k + 1) n₁
   count-yes c f h {m} em {b} {after} a q {n₁} en = record {
     known = a .known;
@@ -204,11 +204,11 @@ module _ {t : Judging} {M : Set} {j e : ℕ} {before counts : List ℕ} {k n : �
     few = omega (arith, c .few);
     inside = omega (arith, member-place c f h);
     rest =
-        let v : violatedIn t M (getD (t .members) k 0) ≡ true = sym (ap (violatedIn t M) em) ∙ sym (a .is) ∙ q in
-        omega (arith, c .rest, ap ind v, count-cons (violatedIn t M) (t .members) k e h (omega (arith, f .end-in j, c .ends)));
+        let v : violatedAt t M (getD (t .members) k 0) ≡ true = sym (ap (violatedAt t M) em) ∙ sym (a .is) ∙ q in
+        omega (arith, c .rest, ap ind v, count-cons (violatedAt t M) (t .members) k e h (omega (arith, f .end-in j, c .ends)));
   }
 
-  pub count-no : Counting t M j e before counts k n → Formed t → k < e → {m : ℕ} → m ≡ getD (t .members) k 0 → {b : Bool} {after : List ℕ} → Answers t M counts b (violatedIn t M m) after → b ≡ false
+  pub count-no : Counting t M j e before counts k n → FormedJudging t → k < e → {m : ℕ} → m ≡ getD (t .members) k 0 → {b : Bool} {after : List ℕ} → Answers t M counts b (violatedAt t M m) after → b ≡ false
       → {n₁ : ℕ} → n₁ ≡ n → Counting t M j e before after (k + 1) n₁
   count-no c f h {m} em {b} {after} a q {n₁} en = record {
     known = a .known;
@@ -218,17 +218,17 @@ module _ {t : Judging} {M : Set} {j e : ℕ} {before counts : List ℕ} {k n : �
     few = omega (arith, c .few);
     inside = omega (arith, member-place c f h);
     rest =
-        let v : violatedIn t M (getD (t .members) k 0) ≡ false = sym (ap (violatedIn t M) em) ∙ sym (a .is) ∙ q in
-        omega (arith, c .rest, ap ind v, count-cons (violatedIn t M) (t .members) k e h (omega (arith, f .end-in j, c .ends)));
+        let v : violatedAt t M (getD (t .members) k 0) ≡ false = sym (ap (violatedAt t M) em) ∙ sym (a .is) ∙ q in
+        omega (arith, c .rest, ap ind v, count-cons (violatedAt t M) (t .members) k e h (omega (arith, f .end-in j, c .ends)));
   }
 
   -- n is within the table
-  pub count-few : Counting t M j e before counts k n → Formed t → n ≤ 4096
+  pub count-few : Counting t M j e before counts k n → FormedJudging t → n ≤ 4096
   count-few c f = omega (arith, c .few, c .inside, f .few)
 
-  pub count-end : Counting t M j e before counts k n → Formed t → j < length (t .ends) → e ≤ k → {after : List ℕ} → after ≡ set counts j (n + 1) → Counts t M before n j after
+  pub count-end : Counting t M j e before counts k n → FormedJudging t → j < length (t .ends) → e ≤ k → {after : List ℕ} → after ≡ set counts j (n + 1) → Counts t M before n j after
   count-end c f h l {after} ea =
-      let q : n ≡ countIn t M j = omega (arith, c .rest, count-none (violatedIn t M) (t .members) k e l) in
+      let q : n ≡ countIn t M j = omega (arith, c .rest, count-none (violatedAt t M) (t .members) k e l) in
       let i : j < length counts = omega (arith, f .ends-few, c .known .long) in
       record {
         is = q;
@@ -239,20 +239,20 @@ module _ {t : Judging} {M : Set} {j e : ℕ} {before counts : List ℕ} {k n : �
 
 -- the same with the columns in sight, as the code's needs have them
 module _ {ls : List ℤ} {js is es ms : List ℕ} where
-  pub small-at : Formed (judging ls js is es ms) → (p : ℕ) → natAbs (getD ls p (pos 0)) ≤ 1024
+  pub small-at : FormedJudging (judging ls js is es ms) → (p : ℕ) → natAbs (getD ls p (pos 0)) ≤ 1024
   small-at f p = f .small p
 
-  pub core-within : Formed (judging ls js is es ms) → (p : ℕ) {j : ℕ} → j ≡ getD js p 0 → j < length es
+  pub core-within : FormedJudging (judging ls js is es ms) → (p : ℕ) {j : ℕ} → j ≡ getD js p 0 → j < length es
   core-within f p e = rw e (f .core-in p)
 
   module _ {M : Set} {j e : ℕ} {before counts : List ℕ} {k n : ℕ} where
-    pub place-in : Counting (judging ls js is es ms) M j e before counts k n → Formed (judging ls js is es ms) → k < e → k < length ms
+    pub place-in : Counting (judging ls js is es ms) M j e before counts k n → FormedJudging (judging ls js is es ms) → k < e → k < length ms
     place-in c f h = member-place c f h
 
-    pub soft-in : Counting (judging ls js is es ms) M j e before counts k n → Formed (judging ls js is es ms) → k < e → {m : ℕ} → m ≡ getD ms k 0 → m < length ls
+    pub soft-in : Counting (judging ls js is es ms) M j e before counts k n → FormedJudging (judging ls js is es ms) → k < e → {m : ℕ} → m ≡ getD ms k 0 → m < length ls
     soft-in c f h em = member-soft c f h em
 
-    pub core-falls : Counting (judging ls js is es ms) M j e before counts k n → Formed (judging ls js is es ms) → 1 ≤ j → k < e → {m : ℕ} → m ≡ getD ms k 0 → getD js m 0 < j
+    pub core-falls : Counting (judging ls js is es ms) M j e before counts k n → FormedJudging (judging ls js is es ms) → 1 ≤ j → k < e → {m : ℕ} → m ≡ getD ms k 0 → getD js m 0 < j
     core-falls c f l h em = member-falls c f l h em
 
 -- ---- the first violated place of a list
@@ -274,7 +274,7 @@ pub record Passing (t : Judging) (M : Set) (ps before counts : List ℕ) (i : �
   pub known : Known t M counts
   pub stays : Stays before counts
   pub below : i ≤ length ps
-  pub rest : firstViolated (violatedIn t M) (drop i ps) ≡ firstViolated (violatedIn t M) ps
+  pub rest : firstViolated (violatedAt t M) (drop i ps) ≡ firstViolated (violatedAt t M) ps
 
 pub pass-start : {t : Judging} {M : Set} (ps : List ℕ) {counts : List ℕ} → Known t M counts → Passing t M ps counts counts 0
 pass-start ps k = record { known = k; stays = λ i w. w; below = zero-le; rest = refl }
@@ -283,30 +283,30 @@ cut-at : (ps : List ℕ) (i : ℕ) → i < length ps → drop i ps ≡ getD ps i
 cut-at ps i h = rw (add-one, drop-cons ps i 0)
 
 module _ {t : Judging} {M : Set} {ps before counts : List ℕ} {i : ℕ} where
-  pub pass-next : Passing t M ps before counts i → i < length ps → {p : ℕ} → p ≡ getD ps i 0 → {b : Bool} {after : List ℕ} → Answers t M counts b (violatedIn t M p) after → b ≡ false → Passing t M ps before after (i + 1)
+  pub pass-next : Passing t M ps before counts i → i < length ps → {p : ℕ} → p ≡ getD ps i 0 → {b : Bool} {after : List ℕ} → Answers t M counts b (violatedAt t M p) after → b ≡ false → Passing t M ps before after (i + 1)
   pass-next c h {p} ep {b} {after} a q = record {
     known = a .known;
     stays = λ x w. a .stays x (c .stays x w);
     below = omega arith;
     rest =
-        sym (first-next (violatedIn t M) (getD ps i 0) (drop (i + 1) ps) (sym (ap (violatedIn t M) ep) ∙ sym (a .is) ∙ q))
-        ∙ sym (ap (firstViolated (violatedIn t M)) (cut-at ps i h)) ∙ c .rest;
+        sym (first-next (violatedAt t M) (getD ps i 0) (drop (i + 1) ps) (sym (ap (violatedAt t M) ep) ∙ sym (a .is) ∙ q))
+        ∙ sym (ap (firstViolated (violatedAt t M)) (cut-at ps i h)) ∙ c .rest;
   }
 
-  pub pass-here : Passing t M ps before counts i → i < length ps → {p : ℕ} → p ≡ getD ps i 0 → {b : Bool} {after : List ℕ} → Answers t M counts b (violatedIn t M p) after → b ≡ true
-      → Answers t M before (Violated p) (firstViolated (violatedIn t M) ps) after
+  pub pass-here : Passing t M ps before counts i → i < length ps → {p : ℕ} → p ≡ getD ps i 0 → {b : Bool} {after : List ℕ} → Answers t M counts b (violatedAt t M p) after → b ≡ true
+      → Answers t M before (Violated p) (firstViolated (violatedAt t M) ps) after
   pass-here c h {p} ep {b} {after} a q = record {
     is =
         ap Violated ep
-        ∙ sym (first-here (violatedIn t M) (getD ps i 0) (drop (i + 1) ps) (sym (ap (violatedIn t M) ep) ∙ sym (a .is) ∙ q))
-        ∙ sym (ap (firstViolated (violatedIn t M)) (cut-at ps i h)) ∙ c .rest;
+        ∙ sym (first-here (violatedAt t M) (getD ps i 0) (drop (i + 1) ps) (sym (ap (violatedAt t M) ep) ∙ sym (a .is) ∙ q))
+        ∙ sym (ap (firstViolated (violatedAt t M)) (cut-at ps i h)) ∙ c .rest;
     known = a .known;
     stays = λ x w. a .stays x (c .stays x w);
   }
 
-  pub pass-end : Passing t M ps before counts i → length ps ≤ i → Answers t M before Met (firstViolated (violatedIn t M) ps) counts
+  pub pass-end : Passing t M ps before counts i → length ps ≤ i → Answers t M before Met (firstViolated (violatedAt t M) ps) counts
   pass-end c h = record {
-    is = sym (first-none (violatedIn t M)) ∙ sym (ap (firstViolated (violatedIn t M)) (drop-of-length-le ps {i = i} h)) ∙ c .rest;
+    is = sym (first-none (violatedAt t M)) ∙ sym (ap (firstViolated (violatedAt t M)) (drop-of-length-le ps {i = i} h)) ∙ c .rest;
     known = c .known;
     stays = c .stays;
   }
@@ -339,12 +339,12 @@ first-found U (x ∷ ps) qs p e = go (U x) e (first-found U ps qs p)
     go false e f = f e
 
 module _ {t : Judging} {M : Set} (ps qs : List ℕ) {r : Judged} {before counts : List ℕ} where
-  pub found-first : Answers t M before r (firstViolated (violatedIn t M) ps) counts → (p : ℕ) → r ≡ Violated p → Violated p ≡ firstViolated (violatedIn t M) (ps ++ qs)
-  found-first a p e = sym (first-found (violatedIn t M) ps qs p (sym (a .is) ∙ e))
+  pub found-first : Answers t M before r (firstViolated (violatedAt t M) ps) counts → (p : ℕ) → r ≡ Violated p → Violated p ≡ firstViolated (violatedAt t M) (ps ++ qs)
+  found-first a p e = sym (first-found (violatedAt t M) ps qs p (sym (a .is) ∙ e))
 
-  pub found-second : Answers t M before r (firstViolated (violatedIn t M) ps) counts → r ≡ Met → {r₂ : Judged} {counts₂ : List ℕ} → Answers t M counts r₂ (firstViolated (violatedIn t M) qs) counts₂
-      → r₂ ≡ firstViolated (violatedIn t M) (ps ++ qs)
-  found-second a e b = b .is ∙ sym (first-append (violatedIn t M) ps qs (sym (a .is) ∙ e))
+  pub found-second : Answers t M before r (firstViolated (violatedAt t M) ps) counts → r ≡ Met → {r₂ : Judged} {counts₂ : List ℕ} → Answers t M counts r₂ (firstViolated (violatedAt t M) qs) counts₂
+      → r₂ ≡ firstViolated (violatedAt t M) (ps ++ qs)
+  found-second a e b = b .is ∙ sym (first-append (violatedAt t M) ps qs (sym (a .is) ∙ e))
 
 -- no count is kept yet
 none-kept : (j : ℕ) → _≡_ {A = ℕ} (getD (replicate 4097 0) j 0) 0

@@ -19,18 +19,17 @@ use Rattle.cores.specs.declared.judge.Judged.{Judged}
 use Rattle.cores.specs.declared.judge.Judged.the-variants.{Met, Violated}
 use Rattle.cores.specs.Sums.{ind, wsum, Distinct, Holds}
 use Rattle.cores.specs.Soft.{violated, InOrder}
-use Rattle.cores.specs.Level.{Level, weighty, opened, greatest, under, assumedFrom, assumed, recorded, fewer, fits, room, FormedEntries}
+use Rattle.cores.specs.Level.{Level, weighty, opened, greatest, under, assumedFrom, assumed, recorded, fewer, coreFits, room, FormedEntries}
 use Rattle.cores.specs.Identity.{Problem, problem, Good, Core, violatedWeight, remaining}
 use Rattle.cores.specs.Judging.{firstViolated}
-use Rattle.cores.specs.Columns.{Listed, listed, assumedOf, Pairs, entriesOf}
-use Rattle.cores.specs.Tables.{entrySoft, emptyTables, Tried, softsOf, openedTables, heldIn, recordedTables, Counted, Room, triedTables, tried, levelOf, FormedTables, Sound}
+use Rattle.cores.specs.Columns.{Listed, listedPlaces, assumedOf, Pairs, entryColumns}
+use Rattle.cores.specs.Tables.{entrySoft, emptyTables, Tried, softsOf, openedTables, heldIn, recordedTables, Counted, Room, triedTables, tried, levelOf, FormedTables, SoundTables}
 use Rattle.cores.proofs.Sums.{members-weigh, wsum-replicate-one}
 use Rattle.cores.proofs.Judgements.{all-map}
 use Rattle.cores.proofs.Record.{in-order}
 use Rattle.cores.proofs.Open.{opened-good, weights-sum, length-weighty, length-level}
 use Rattle.cores.proofs.Strata.{greatest-le, under-none, under-all, every-assumed}
-use Rattle.cores.proofs.Limits as Limits
-use Rattle.cores.proofs.Limits.{Run, run-sound, opened-fits, kth, has-room, met-costs-lower, lower-within}
+use Rattle.cores.proofs.Limits.{lower-within}
 use Rattle.cores.proofs.Members.{all-at}
 use Rattle.cores.proofs.Loops.{try-room}
 use Rattle.cores.proofs.Links.{kinds-count, rests-count, cores-count, fits-room, counted, opened-level, opened-formed, recorded-level, recorded-formed, take-sets}
@@ -76,7 +75,7 @@ module _ (es : List Entry) (f : FormedEntries es) where
   pub opened-means : levelOf (openedTables es) ≡ opened es
   opened-means = opened-level es softs-few
 
-  pub opened-sound : Sound (openedTables es)
+  pub opened-sound : SoundTables (openedTables es)
   opened-sound = record {
     formed = opened-formed es softs-few (weighty-all (λ e. natAbs (e .literal) ≤ 1024) es (f .atoms));
     ordered = subst (λ (l : Level). InOrder (l .kinds) (l .cores)) (sym opened-means) (opened-good (λ M. ⊥) es .ordered);
@@ -92,7 +91,7 @@ module _ (es : List Entry) (f : FormedEntries es) where
 
 -- ---- a core is recorded
 
-module _ (t : LevelTables) (ok : Sound t) (s : ℕ) (ms : List ℕ) where
+module _ (t : LevelTables) (ok : SoundTables t) (s : ℕ) (ms : List ℕ) where
   -- what is asked of a core that `record_core` takes
   pub core-counted : 1 ≤ length ms → length ms ≤ 4096 → Counted t (length ms)
   core-counted = counted t (ok .formed) (length ms)
@@ -102,7 +101,7 @@ module _ (t : LevelTables) (ok : Sound t) (s : ℕ) (ms : List ℕ) where
     pub recorded-means : levelOf (recordedTables t s ms) ≡ recorded (levelOf t) s ms
     recorded-means = recorded-level t s ms (ok .formed) r inside
 
-    pub recorded-sound : Sound (recordedTables t s ms)
+    pub recorded-sound : SoundTables (recordedTables t s ms)
     recorded-sound = record {
       formed = recorded-formed t s ms (ok .formed) r inside;
       ordered =
@@ -111,7 +110,7 @@ module _ (t : LevelTables) (ok : Sound t) (s : ℕ) (ms : List ℕ) where
     }
 
 -- what recording asks, of a core of the level
-module _ (P : Problem) (t : LevelTables) (ok : Sound t) (s : ℕ) (ms : List ℕ) (g : Good P (levelOf t)) (c : Core P (levelOf t) s ms) where
+module _ (P : Problem) (t : LevelTables) (ok : SoundTables t) (s : ℕ) (ms : List ℕ) (g : Good P (levelOf t)) (c : Core P (levelOf t) s ms) where
   pub core-inside : All (λ m. m < t .count) ms
   core-inside = all-map ms (λ m h. subst (λ (n : ℕ). m < n) (rests-count t (ok .formed)) (h .0)) (c .heavy)
 
@@ -153,11 +152,11 @@ assumed-front s ws ps h =
     ap (λ (n : ℕ). take n (sets ps 0 (assumedFrom s 0 ws))) (sym (zero-add (length (assumedFrom s 0 ws)))) ∙ take-sets ps 0 (assumedFrom s 0 ws) (omega arith)
 
 -- and those that `entries` leaves
-pub entries-front : (ls : List ℤ) (ps : List ℕ) (t : Pairs) → length ps ≤ length (t .places) → take (entriesOf ls ps t .count) (entriesOf ls ps t .pairs .places) ≡ ps
+pub entries-front : (ls : List ℤ) (ps : List ℕ) (t : Pairs) → length ps ≤ length (t .places) → take (entryColumns ls ps t .count) (entryColumns ls ps t .pairs .places) ≡ ps
 entries-front ls ps t h = ap (λ (n : ℕ). take n (sets (t .places) 0 ps)) (sym (zero-add (length ps))) ∙ take-sets (t .places) 0 ps (omega arith)
 
 pub wishes-front : (ls : List ℤ) (ps : List ℕ) (t : Pairs) → length ps ≤ length (t .wishes)
-    → take (entriesOf ls ps t .count) (entriesOf ls ps t .pairs .wishes) ≡ map (λ (p : ℕ). negℤ (getD ls p (pos 0))) ps
+    → take (entryColumns ls ps t .count) (entryColumns ls ps t .pairs .wishes) ≡ map (λ (p : ℕ). negℤ (getD ls p (pos 0))) ps
 wishes-front ls ps t h =
     let e : length (map (λ (p : ℕ). negℤ (getD ls p (pos 0))) ps) ≡ length ps = length-map ps (λ (p : ℕ). negℤ (getD ls p (pos 0))) in
     ap (λ (n : ℕ). take n (sets (t .wishes) 0 (map (λ (p : ℕ). negℤ (getD ls p (pos 0))) ps))) (sym e ∙ sym (zero-add _))
@@ -172,68 +171,19 @@ pub distinct-few : (n : ℕ) (ms : List ℕ) → Distinct ms → All (λ m. m < 
 distinct-few n ms d a =
     omega (arith, members-weigh 1 ms (replicate n 1) d (all-map ms (λ m h. ones-hold n m h) a), wsum-replicate-one 1 n)
 
--- ---- the end of a level
-
--- A MODEL THAT MEETS WHAT THE QUERY ASSUMES, WITH NO WEIGHT LEFT BELOW THE STRATUM, COSTS THE LOWER BOUND
-pub met-settles : (P : Problem) (l : Level) → Good P l → (M : Set) → P .Model M → (s : ℕ) → under s (l .rests) ≡ 0
-    → All (λ p. violated M (l .kinds) (l .cores) p ≡ false) (assumed s l) → P .costOf M ≡ l .lower
-met-settles P l g M h s z a =
-    met-costs-lower P l g M h (λ p i w. every-assumed s (λ x. violated M (l .kinds) (l .cores) x ≡ false) (l .rests) a p (i, under-none s (l .rests) z p i w))
-
 -- ---- the empty tables, and a core that was tried
 
-pub empty-sound : Sound emptyTables
+pub empty-sound : SoundTables emptyTables
 unfolding weighty
 empty-sound = opened-sound [] (record { few = zero-le; atoms = tt; weights = tt })
 
 -- RECORDED OR FULL, THE TABLES STAY SOUND
-pub tried-sound : (t : LevelTables) → Sound t → (s : ℕ) (ms : List ℕ) → Counted t (length ms) → All (λ m. m < t .count) ms → {b : Bool} {u : LevelTables} → tried b u ≡ triedTables t s ms → Sound u
-tried-sound t ok s ms c inside {b} {u} e = go (fits (t .count) (heldIn t) (length ms)) refl
+pub tried-sound : (t : LevelTables) → SoundTables t → (s : ℕ) (ms : List ℕ) → Counted t (length ms) → All (λ m. m < t .count) ms → {b : Bool} {u : LevelTables} → tried b u ≡ triedTables t s ms → SoundTables u
+tried-sound t ok s ms c inside {b} {u} e = go (coreFits (t .count) (heldIn t) (length ms)) refl
   where
-    go : (x : Bool) → fits (t .count) (heldIn t) (length ms) ≡ x → Sound u
+    go : (x : Bool) → coreFits (t .count) (heldIn t) (length ms) ≡ x → SoundTables u
     go true q =
         let w : u ≡ recordedTables t s ms = ap (λ (z : Tried). z .tables) (rw q at e) in
         let r : Room t (length ms) = try-room t s ms c refl refl q in
-        subst Sound (sym w) (recorded-sound t ok s ms r inside)
-    go false q = let w : u ≡ t = ap (λ (z : Tried). z .tables) (rw q at e) in subst Sound (sym w) ok
-
--- ---- on a level: from opening it, over any cores and falls of the stratum
-
-module _ (Model : Set → Type 0) (es : List Entry) (s1 : 1 ≤ greatest (opened es .rests)) where
-  abbrev P : Problem
-  P = problem Model es
-
-  -- k cores were recorded and the stratum fell f times, and stands at s
-  abbrev pub Reached : Level → ℕ → ℕ → ℕ → Type 0
-  Reached l s f k = Run P (opened es) (greatest (opened es .rests)) l s f k
-
-  reached-sound : {l : Level} {s f k : ℕ} → Reached l s f k → Limits.Sound P (greatest (opened es .rests)) l s f k
-  reached-sound r = run-sound P (opened es) (greatest (opened es .rests)) (opened-good Model es) (opened-fits P es refl) refl s1 r
-
-  -- THE IDENTITY, AT EVERY POINT
-  pub identity-everywhere : {l : Level} {s f k : ℕ} → Reached l s f k → (M : Set) → Model M → cost M es ≡ l .lower + violatedWeight M l
-  identity-everywhere r M h = reached-sound r .good .identity M h
-
-  pub weight-everywhere : {l : Level} {s f k : ℕ} → Reached l s f k → l .lower + remaining l ≡ weight es
-  weight-everywhere r = reached-sound r .good .weighs
-
-  -- cores so far are at most the lower bound, falls fewer than the first stratum: with the query in work at most 2 w queries on a level of weight w
-  pub cores-few : {l : Level} {s f k : ℕ} → Reached l s f k → k ≤ l .lower
-  cores-few r = omega (arith, reached-sound r .fits .cores-fit, reached-sound r .cores-are)
-
-  pub falls-few : {l : Level} {s f k : ℕ} → Reached l s f k → f + s ≤ greatest (opened es .rests)
-  falls-few r = reached-sound r .falls-few
-
-  pub queries-few : {l : Level} {s f k : ℕ} → Reached l s f k → k + f < weight es + weight es
-  queries-few r =
-      omega (arith, cores-few r, reached-sound r .falls-few, reached-sound r .positive, reached-sound r .good .weighs, greatest-le (opened es .rests), weights-sum es)
-
-  -- the k-th core has at most w + 1 - k members
-  pub core-size : {l : Level} {s f k : ℕ} → Reached l s f k → (ms : List ℕ) → Core P l s ms → length ms + suc k ≤ suc (weight es)
-  core-size {l} {s} r ms c =
-      let z = reached-sound r in
-      omega (arith, kth P l s ms (z .good) c (z .positive) (z .fits), z .cores-are)
-
-  -- A LEVEL OF WEIGHT 90 OR LESS IS NEVER FULL
-  pub never-full : weight es ≤ 90 → {l : Level} {s f k : ℕ} → Reached l s f k → (ms : List ℕ) → Core P l s ms → room l ms ≡ true
-  never-full w {l} {s} r ms c = let z = reached-sound r in has-room P l s ms (z .good) c (z .positive) (z .fits) w
+        subst SoundTables (sym w) (recorded-sound t ok s ms r inside)
+    go false q = let w : u ≡ t = ap (λ (z : Tried). z .tables) (rw q at e) in subst SoundTables (sym w) ok

@@ -13,7 +13,7 @@ use Rattle.asp.specs.Program.{Entry}
 use Rattle.asp.specs.Cost.{weight}
 use Rattle.cores.specs.Sums.{ind, wsum, lose}
 use Rattle.cores.specs.Soft.{violated}
-use Rattle.cores.specs.Level.{Level, weighty, opened, under, recorded, fewer, held, fits, room}
+use Rattle.cores.specs.Level.{Level, weighty, opened, under, recorded, fewer, held, coreFits, room}
 use Rattle.cores.specs.Identity.{Problem, Good, Core, remaining}
 use Rattle.cores.proofs.Sums.{wsum-none, length-lose, members-weigh, each-weighs}
 use Rattle.cores.proofs.Record.{fewer-is, kept}
@@ -136,51 +136,3 @@ module _ (P : Problem) where
       → ((p : ℕ) → p < length (l .rests) → 0 < getD (l .rests) p 0 → violated M (l .kinds) (l .cores) p ≡ false)
       → (N : Set) → Model N → costOf M ≤ costOf N
   best l g M h met N k = omega (arith, met-costs-lower l g M h met, lower-bounds l g N k)
-
-  -- ---- a run on the level: from l0 at stratum s0, cores recorded at the present stratum s, and falls of the stratum, never below 1; f falls and k cores
-
-  pub data Run (l0 : Level) (s0 : ℕ) : Level → ℕ → ℕ → ℕ → Type 0 where
-    begin : Run l0 s0 l0 s0 0 0
-    core : {l : Level} {s f k : ℕ} → Run l0 s0 l s f k → (ms : List ℕ) → Core P l s ms → Run l0 s0 (recorded l s ms) s f (suc k)
-    fall : {l : Level} {s f k : ℕ} → Run l0 s0 l s f k → 1 ≤ under s (l .rests) → Run l0 s0 l (under s (l .rests)) (suc f) k
-
-  pub record Sound (s0 : ℕ) (l : Level) (s f k : ℕ) : Type 0 where
-    pub good : Good P l
-    pub fits : Fits l
-    pub positive : 1 ≤ s
-    pub falls-few : f + s ≤ s0
-    pub cores-are : k ≡ length (l .cores)
-
-  module _ (l0 : Level) (s0 : ℕ) (g0 : Good P l0) (f0 : Fits l0) (none : l0 .cores ≡ []) (s1 : 1 ≤ s0) where
-    pub run-sound : {l : Level} {s f k : ℕ} → Run l0 s0 l s f k → Sound s0 l s f k
-    run-sound begin = record { good = g0; fits = f0; positive = s1; falls-few = omega arith; cores-are = sym (ap length none) }
-    run-sound (core {l = l} {s = s} r ms c) =
-        let z = run-sound r in
-        record {
-          good = kept P l s ms (z .good) c;
-          fits = fits-kept l s ms (z .good) c (z .positive) (z .fits);
-          positive = z .positive;
-          falls-few = z .falls-few;
-          cores-are = omega (arith, z .cores-are, length-append (l .cores) (ms ∷ []));
-        }
-    run-sound (fall {l = l} {s = s} r p) =
-        let z = run-sound r in
-        record { good = z .good; fits = z .fits; positive = p; falls-few = omega (arith, z .falls-few, under-lt s (l .rests) (z .positive)); cores-are = z .cores-are }
-
-    -- a level of at most 90: at most 4096 soft literals and 4096 core members, whatever cores are found
-    pub softs-at-most : {l : Level} {s f k : ℕ} → Run l0 s0 l s f k → whole ≤ 90 → length (l .kinds) ≤ 4096
-    softs-at-most r h = omega (arith, run-sound r .good .as-long, run-sound r .fits .softs-fit, tri-mono h)
-
-    pub members-at-most : {l : Level} {s f k : ℕ} → Run l0 s0 l s f k → whole ≤ 90 → held (l .cores) ≤ 4096
-    members-at-most r h = omega (arith, run-sound r .fits .members-fit, tri-mono h)
-
-    -- the queries: k cores and f falls so far
-    pub cores-at-most : {l : Level} {s f k : ℕ} → Run l0 s0 l s f k → k ≤ l .lower
-    cores-at-most r = omega (arith, run-sound r .fits .cores-fit, run-sound r .cores-are)
-
-    pub falls-at-most : {l : Level} {s f k : ℕ} → Run l0 s0 l s f k → f ≤ s0 - s
-    falls-at-most r = omega (arith, run-sound r .falls-few)
-
-    -- so at most whole cores, and with the falls fewer than whole + s0 queries are answered by a core or followed by a fall
-    pub queries-at-most : {l : Level} {s f k : ℕ} → Run l0 s0 l s f k → k + f < whole + s0
-    queries-at-most r = omega (arith, cores-at-most r, run-sound r .falls-few, run-sound r .positive, run-sound r .good .weighs)

@@ -19,7 +19,7 @@ use Rattle.cores.specs.declared.soft.Soft.{Soft}
 use Rattle.cores.specs.declared.level.LevelTables.{LevelTables}
 use Rattle.cores.specs.Sums.{lose}
 use Rattle.cores.specs.Soft.{Kind, entry, derived}
-use Rattle.cores.specs.Level.{Level, weighty, opened, fewer, derivedFrom, recorded, held, fits, room}
+use Rattle.cores.specs.Level.{Level, weighty, opened, fewer, derivedFrom, recorded, held, coreFits, room}
 use Rattle.cores.specs.Judging.{kindFrom, membersIn}
 use Rattle.cores.specs.Tables.{noSoft, entrySoft, coreSoft, lighterBy, lighten, newSofts, softsOf, openedTables, heldIn, recordedTables, Counted, Room, kindOf, levelOf, FormedTables}
 use Rattle.cores.proofs.Sums.{below-or}
@@ -138,8 +138,8 @@ module _ (t : LevelTables) (f : FormedTables t) where
   held-count = held-upto (t .cores) (omega arith)
 
   -- THE LIMITS ARE THOSE OF THE LEVEL
-  pub fits-room : (ms : List ℕ) → fits (t .count) (heldIn t) (length ms) ≡ room (levelOf t) ms
-  fits-room ms = ap₂ (λ (k h : ℕ). fits k h (length ms)) (sym kinds-count) (sym held-count)
+  pub fits-room : (ms : List ℕ) → coreFits (t .count) (heldIn t) (length ms) ≡ room (levelOf t) ms
+  fits-room ms = ap₂ (λ (k h : ℕ). coreFits k h (length ms)) (sym kinds-count) (sym held-count)
 
   pub counted : (n : ℕ) → 1 ≤ n → n ≤ 4096 → Counted t n
   counted n h l = record { softs = f .softs-few; members = f .held-few; cores = f .cores-few; some = h; few = l }

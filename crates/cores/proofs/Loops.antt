@@ -22,7 +22,7 @@ use Rattle.asp.specs.Cost.{level}
 use Rattle.asp.specs.Tables.{span, entryAt, entriesOf}
 use Rattle.cores.specs.declared.soft.Soft.{Soft}
 use Rattle.cores.specs.declared.level.LevelTables.{LevelTables}
-use Rattle.cores.specs.Level.{weighty, fits}
+use Rattle.cores.specs.Level.{weighty, coreFits}
 use Rattle.cores.specs.Tables.{noSoft, entrySoft, coreSoft, lighterBy, lighten, newSofts, softsOf, emptyTables, openedTables, countsAt, heldIn, recordedTables, Counted, Room, tried, triedTables}
 use Rattle.cores.proofs.Members.{all-at}
 
@@ -230,9 +230,9 @@ module _ (t : LevelTables) (s : ℕ) (ms : List ℕ) where
       } ≡ recordedTables t s ms
   recorded-is eh ea eb ed ee = rw (eb, ea, ed, ee, eh)
 
-  pub try-room : Counted t (length ms) → {h : ℕ} → h ≡ getD (t .ends) (t .cores) 0 → {b : Bool} → b ≡ fits (t .count) h (length ms) → b ≡ true → Room t (length ms)
+  pub try-room : Counted t (length ms) → {h : ℕ} → h ≡ getD (t .ends) (t .cores) 0 → {b : Bool} → b ≡ coreFits (t .count) h (length ms) → b ≡ true → Room t (length ms)
   try-room c {h} eh {b} eb q =
-      let f : fits (t .count) (heldIn t) (length ms) ≡ true = rw eh at (sym eb ∙ q) in
+      let f : coreFits (t .count) (heldIn t) (length ms) ≡ true = rw eh at (sym eb ∙ q) in
       let g = and-yes (leb (t .count + (length ms - 1)) 4096) (leb (heldIn t + length ms) 4096) (rw f tt) in
       record {
         counted = c;
@@ -240,16 +240,16 @@ module _ (t : LevelTables) (s : ℕ) (ms : List ℕ) where
         members = leb→le (heldIn t + length ms) 4096 (g .1);
       }
 
-  pub try-yes : {h : ℕ} → h ≡ getD (t .ends) (t .cores) 0 → {b : Bool} → b ≡ fits (t .count) h (length ms) → b ≡ true → {u : LevelTables} → u ≡ recordedTables t s ms → tried false u ≡ triedTables t s ms
+  pub try-yes : {h : ℕ} → h ≡ getD (t .ends) (t .cores) 0 → {b : Bool} → b ≡ coreFits (t .count) h (length ms) → b ≡ true → {u : LevelTables} → u ≡ recordedTables t s ms → tried false u ≡ triedTables t s ms
   try-yes eh eb q eu = rw (rw eh at (sym eb ∙ q), eu)
 
-  pub try-no : {h : ℕ} → h ≡ getD (t .ends) (t .cores) 0 → {b : Bool} → b ≡ fits (t .count) h (length ms) → b ≡ false → tried true t ≡ triedTables t s ms
+  pub try-no : {h : ℕ} → h ≡ getD (t .ends) (t .cores) 0 → {b : Bool} → b ≡ coreFits (t .count) h (length ms) → b ≡ false → tried true t ≡ triedTables t s ms
   try-no eh eb q = rw (rw eh at (sym eb ∙ q))
 
 -- ---- whether there is room
 
-pub room-yes : (k h n : ℕ) → k + (n - 1) ≤ 4096 → leb (h + n) 4096 ≡ fits k h n
+pub room-yes : (k h n : ℕ) → k + (n - 1) ≤ 4096 → leb (h + n) 4096 ≡ coreFits k h n
 room-yes k h n l = rw (le-leb (k + (n - 1)) 4096 l)
 
-pub room-no : (k h n : ℕ) → 4096 < k + (n - 1) → leb (k + (n - 1)) 4096 ≡ fits k h n
+pub room-no : (k h n : ℕ) → 4096 < k + (n - 1) → leb (k + (n - 1)) 4096 ≡ coreFits k h n
 room-no k h n l = rw (lt-leb (k + (n - 1)) 4096 l)

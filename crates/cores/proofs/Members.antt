@@ -11,7 +11,7 @@ use lib.Seq.{take-suc, take-length, getD-set-same, getD-set-other}
 use lib.Dec.{T, leb, ltb, eqb, leb→le, ltb→lt, eqb-refl, T-not}
 use mir.Facts.{and-yes}
 use Rattle.asp.specs.Program.{All}
-use Rattle.cores.specs.Sums.{wsum, count, Out, Distinct, Holds, lose}
+use Rattle.cores.specs.Sums.{wsum, sumOver, Out, Distinct, Holds, lose}
 
 -- ---- the first i members: a turn of the loop that takes s from each
 

@@ -17,7 +17,7 @@ use Rattle.asp.specs.Stable.{keep}
 use Rattle.cores.specs.declared.soft.Soft.{Soft}
 use Rattle.cores.specs.Level.{under, assumedFrom}
 use Rattle.cores.specs.Tables.{noSoft}
-use Rattle.cores.specs.Columns.{Columns, columns, putColumns, unpackedFrom, unpackedOf, restsOf, raisedBy, Listed, listed, assumedOf, entriesAmong, Pairs, pairs, putPair, Paired, paired, putEntry, entriesOf}
+use Rattle.cores.specs.Columns.{Columns, columns, putColumns, unpackedFrom, unpackedOf, restsOf, raisedBy, Listed, listedPlaces, assumedOf, entriesAmong, Pairs, pairs, putPair, Paired, paired, putEntry, entryColumns}
 use Rattle.cores.proofs.Members.{all-at}
 use Rattle.cores.proofs.Strata.{assumed-yes, assumed-no}
 
@@ -110,13 +110,13 @@ module _ (s : ℕ) (ss : List Soft) (n : ℕ) {best i : ℕ} where
 
 -- the list xs is still to be put from place n on
 abbrev toCome : List ℕ → ℕ → List ℕ → Listed
-toCome ps n xs = listed (sets ps n xs) (n + length xs)
+toCome ps n xs = listedPlaces (sets ps n xs) (n + length xs)
 
 put-one : (ps : List ℕ) (n x : ℕ) (xs : List ℕ) → toCome ps n (x ∷ xs) ≡ toCome (set ps n x) (n + 1) xs
-put-one ps n x xs = ap₂ (λ (a b : ℕ). listed (sets (set ps n x) a xs) b) (sym (add-one n)) (omega arith)
+put-one ps n x xs = ap₂ (λ (a b : ℕ). listedPlaces (sets (set ps n x) a xs) b) (sym (add-one n)) (omega arith)
 
-put-none : (ps : List ℕ) (n : ℕ) → toCome ps n [] ≡ listed ps n
-put-none ps n = ap (listed ps) (add-zero n)
+put-none : (ps : List ℕ) (n : ℕ) → toCome ps n [] ≡ listedPlaces ps n
+put-none ps n = ap (listedPlaces ps) (add-zero n)
 
 pub record Picking (s : ℕ) (ws ps₀ ps : List ℕ) (n i : ℕ) : Type 0 where
   pub below : i ≤ length ws
@@ -124,7 +124,7 @@ pub record Picking (s : ℕ) (ws ps₀ ps : List ℕ) (n i : ℕ) : Type 0 where
   pub rest : toCome ps n (assumedFrom s i (drop i ws)) ≡ assumedOf s ws ps₀
 
 pub pick-start : (s : ℕ) (ws ps : List ℕ) → Picking s ws ps ps 0 0
-pick-start s ws ps = record { below = zero-le; few = zero-le; rest = ap (listed (sets ps 0 (assumedFrom s 0 ws))) (zero-add _) }
+pick-start s ws ps = record { below = zero-le; few = zero-le; rest = ap (listedPlaces (sets ps 0 (assumedFrom s 0 ws))) (zero-add _) }
 
 module _ {s : ℕ} {ws ps₀ ps : List ℕ} {n i : ℕ} where
   pub pick-room : Picking s ws ps₀ ps n i → i < length ws → length ws ≤ 4096 → n < 4096
@@ -153,7 +153,7 @@ module _ {s : ℕ} {ws ps₀ ps : List ℕ} {n i : ℕ} where
         ∙ sym (ap (λ (l : List ℕ). toCome ps n (assumedFrom s i l)) (cut ws i 0 h)) ∙ p .rest;
   }
 
-  pub pick-end : Picking s ws ps₀ ps n i → length ws ≤ i → listed ps n ≡ assumedOf s ws ps₀
+  pub pick-end : Picking s ws ps₀ ps n i → length ws ≤ i → listedPlaces ps n ≡ assumedOf s ws ps₀
   unfolding assumedFrom
   pick-end p h = sym (put-none ps n) ∙ sym (ap (λ (l : List ℕ). toCome ps n (assumedFrom s i l)) (drop-of-length-le ws {i = i} h)) ∙ p .rest
 
@@ -186,7 +186,7 @@ pair-none ls t n = ap (paired t) (add-zero n)
 pub record Pairing (ls : List ℤ) (js as′ : List ℕ) (t₀ t : Pairs) (n i : ℕ) : Type 0 where
   pub below : i ≤ length as′
   pub few : n ≤ i
-  pub rest : pairsToCome ls t n (entriesAmong js (drop i as′)) ≡ entriesOf ls (entriesAmong js as′) t₀
+  pub rest : pairsToCome ls t n (entriesAmong js (drop i as′)) ≡ entryColumns ls (entriesAmong js as′) t₀
 
 pub pair-start : (ls : List ℤ) (js as′ : List ℕ) (t : Pairs) → Pairing ls js as′ t t 0 0
 pair-start ls js as′ t = record {
@@ -241,7 +241,7 @@ module _ {ls : List ℤ} {js as′ : List ℕ} {t₀ t : Pairs} {n i : ℕ} wher
                 ∙ sym (ap (λ (l : List ℕ). pairsToCome ls t n (entriesAmong js l)) (cut as′ i 0 h)) ∙ c .rest;
           }
 
-  pub pair-end : Pairing ls js as′ t₀ t n i → length as′ ≤ i → paired t n ≡ entriesOf ls (entriesAmong js as′) t₀
+  pub pair-end : Pairing ls js as′ t₀ t n i → length as′ ≤ i → paired t n ≡ entryColumns ls (entriesAmong js as′) t₀
   pair-end c h =
       sym (pair-none ls t n)
       ∙ sym (ap (pairsToCome ls t n) (keep-nil (λ p. eqb (getD js p 0) 0)))

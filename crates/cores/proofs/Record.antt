@@ -12,7 +12,7 @@ use lib.Seq.{getD-append-add, getD-append-seam}
 use lib.Dec.{ltb}
 use Rattle.asp.specs.Sets.{Set}
 use Rattle.asp.specs.Program.{All}
-use Rattle.cores.specs.Sums.{ind, wsum, count, Distinct, Holds, lose}
+use Rattle.cores.specs.Sums.{ind, wsum, sumOver, Distinct, Holds, lose}
 use Rattle.cores.specs.Soft.{Kind, entry, derived, coreNumber, coreOf, kindAt, countBy, judge, violated, Earlier, InOrder}
 use Rattle.cores.specs.Level.{Level, recorded, fewer, derivedFrom}
 use Rattle.cores.specs.Identity.{Problem, Good, Core}
@@ -95,18 +95,18 @@ module _ (ks : List Kind) (cs : List (List ℕ)) (o : InOrder ks cs) (ms : List 
     old-soft p h = old-judgement M ks cs o (derivedFrom (suc (length cs)) 1 n) (ms ∷ []) p h
 
     -- the i-th new soft literal is violated where more than i members are
-    pub new-soft : (q : ℕ) → q < n → violated M ks′ cs′ (length ks + q) ≡ ltb (1 + q) (count (λ m. ind (violated M ks cs m)) ms)
+    pub new-soft : (q : ℕ) → q < n → violated M ks′ cs′ (length ks + q) ≡ ltb (1 + q) (sumOver (λ m. ind (violated M ks cs m)) ms)
     new-soft q h =
         unfolds M ks′ cs′ in-order (length ks + q)
         ∙ ap (judge M cs′ (violated M ks′ cs′)) (new-kind q ∙ kind-derived (suc (length cs)) 1 n q h)
         ∙ rw (coreOf-last cs ms, count-ext (λ m. ind (violated M ks′ cs′ m)) (λ m. ind (violated M ks cs m)) ms (all-map ms (λ m h′. ap ind (old-soft m h′)) inside))
 
 -- what a core says, that no model meets all its members, as a count
-pub some-violated : (U : ℕ → Bool) (ms : List ℕ) → (All (λ m. U m ≡ false) ms → ⊥) → 1 ≤ count (λ m. ind (U m)) ms
+pub some-violated : (U : ℕ → Bool) (ms : List ℕ) → (All (λ m. U m ≡ false) ms → ⊥) → 1 ≤ sumOver (λ m. ind (U m)) ms
 some-violated U [] h = absurd (h tt)
 some-violated U (m ∷ ms) h = go (U m) refl (λ a. some-violated U ms a)
   where
-    go : (b : Bool) → U m ≡ b → ((All (λ m. U m ≡ false) ms → ⊥) → 1 ≤ count (λ m. ind (U m)) ms) → 1 ≤ ind (U m) + count (λ m. ind (U m)) ms
+    go : (b : Bool) → U m ≡ b → ((All (λ m. U m ≡ false) ms → ⊥) → 1 ≤ sumOver (λ m. ind (U m)) ms) → 1 ≤ ind (U m) + sumOver (λ m. ind (U m)) ms
     go true e ih = omega (arith, ap ind e)
     go false e ih = omega (arith, ih (λ a. h (e, a)))
 
@@ -147,19 +147,19 @@ module _ (P : Problem) where
       old-sum = wsum-ext after before (lose s ms (l .rests)) (λ p h′.
           ap ind (old-soft (l .kinds) (l .cores) (g .ordered) ms inside-kinds (fewer ms) M p (subst (λ (n : ℕ). p < n) long-kept h′)))
 
-      new-sum : wsum (λ q. after (length (lose s ms (l .rests)) + q)) (replicate (fewer ms) s) ≡ s * (count before ms - 1)
+      new-sum : wsum (λ q. after (length (lose s ms (l .rests)) + q)) (replicate (fewer ms) s) ≡ s * (sumOver before ms - 1)
       unfolding before after
       new-sum =
-          wsum-ext _ (λ q. ind (ltb (1 + q) (count before ms))) (replicate (fewer ms) s) (λ q h′.
+          wsum-ext _ (λ q. ind (ltb (1 + q) (sumOver before ms))) (replicate (fewer ms) s) (λ q h′.
           ap (λ (n : ℕ). after (n + q)) long-kept
           ∙ ap ind (new-soft (l .kinds) (l .cores) (g .ordered) ms inside-kinds (fewer ms) M q (subst (λ (n : ℕ). q < n) (length-replicate (fewer ms) s) h′)))
-          ∙ wsum-above s (count before ms) (fewer ms) 1 (omega (arith, count-le before ms (λ m. ind-le (violated M (l .kinds) (l .cores) m)), fewer-is ms (c .some)))
+          ∙ wsum-above s (sumOver before ms) (fewer ms) 1 (omega (arith, count-le before ms (λ m. ind-le (violated M (l .kinds) (l .cores) m)), fewer-is ms (c .some)))
 
       identity-kept : costOf M ≡ l .lower + s + wsum after (lose s ms (l .rests) ++ replicate (fewer ms) s)
       unfolding before
       identity-kept =
-          let one : 1 ≤ count before ms = c .refuted M h in
-          let e : count before ms ≡ suc (count before ms - 1) = omega arith in
+          let one : 1 ≤ sumOver before ms = c .refuted M h in
+          let e : sumOver before ms ≡ suc (sumOver before ms - 1) = omega arith in
           omega (arith, g .identity M h, wsum-append after (lose s ms (l .rests)) (replicate (fewer ms) s), old-sum, new-sum, wsum-lose before s ms (l .rests) (c .distinct) (c .heavy), ap (λ (z : ℕ). s * z) e)
 
     -- RECORDING A CORE KEEPS THE IDENTITY AND THE WEIGHT

@@ -11,7 +11,7 @@ use Rattle.asp.specs.Sets.{Set}
 use Rattle.asp.specs.Program.{Entry}
 use Rattle.asp.specs.Cost.{cost, total}
 use Rattle.cores.specs.Soft.{entry, derived, violated}
-use Rattle.cores.specs.Level.{Level, weighty, opened, recorded, fits}
+use Rattle.cores.specs.Level.{Level, weighty, opened, recorded, coreFits}
 use Rattle.cores.specs.Identity.{Problem, problem, Good, Core, violatedWeight}
 use Rattle.cores.proofs.Record.{kept, some-violated}
 use Rattle.cores.proofs.Open.{opened-good}
@@ -40,7 +40,7 @@ unfolding weighty
 sample-before = refl
 
 -- "bound up 5"
-pub sample-lower : sampleAfter .lower ≡ 5
+pub sample-lower : sampleAfter .lower ≡ sampleBefore .lower + 5
 sample-lower = refl
 
 -- "then 2, 0, 0 and two new of 5"
@@ -111,17 +111,17 @@ high-two = refl
 
 -- ---- the limits: 4,096 of each pass, one more does not; a core of one member gives no new soft literal
 
-pub limit-softs : fits 4089 3584 8 ≡ true
+pub limit-softs : coreFits 4089 3584 8 ≡ true
 limit-softs = refl
 
-pub limit-softs-passed : fits 4089 3584 9 ≡ false
+pub limit-softs-passed : coreFits 4089 3584 9 ≡ false
 limit-softs-passed = refl
 
-pub limit-members : fits 9 4088 8 ≡ true
+pub limit-members : coreFits 9 4088 8 ≡ true
 limit-members = refl
 
-pub limit-members-passed : fits 9 4088 9 ≡ false
+pub limit-members-passed : coreFits 9 4088 9 ≡ false
 limit-members-passed = refl
 
-pub limit-single : fits 4096 4095 1 ≡ true
+pub limit-single : coreFits 4096 4095 1 ≡ true
 limit-single = refl

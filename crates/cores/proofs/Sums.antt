@@ -12,7 +12,7 @@ use lib.Dec.{T, ltb, lt→ltb}
 use lib.Arith.{le→nltb}
 use native.Mathlib.Decide.{decLt}
 use Rattle.asp.specs.Program.{All}
-use Rattle.cores.specs.Sums.{ind, wsum, count, Out, Distinct, Holds, lose}
+use Rattle.cores.specs.Sums.{ind, wsum, sumOver, Out, Distinct, Holds, lose}
 
 -- ---- congruence: f counts only at the positions that there are
 
@@ -21,7 +21,7 @@ wsum-ext f g [] e = refl
 wsum-ext f g (w ∷ ws) e =
     ap₂ (λ (x y : ℕ). w * x + y) (e 0 (suc-le-suc zero-le)) (wsum-ext (λ q. f (suc q)) (λ q. g (suc q)) ws (λ q h. e (suc q) (suc-le-suc h)))
 
-pub count-ext : (f g : ℕ → ℕ) (ms : List ℕ) → All (λ m. f m ≡ g m) ms → count f ms ≡ count g ms
+pub count-ext : (f g : ℕ → ℕ) (ms : List ℕ) → All (λ m. f m ≡ g m) ms → sumOver f ms ≡ sumOver g ms
 count-ext f g [] e = refl
 count-ext f g (m ∷ ms) e = omega (arith, e .0, count-ext f g ms (e .1))
 
@@ -53,7 +53,7 @@ pub length-lose : (s : ℕ) (ms ws : List ℕ) → length (lose s ms ws) ≡ len
 length-lose s [] ws = refl
 length-lose s (m ∷ ms) ws = length-lose s ms (set ws m (getD ws m 0 - s)) ∙ length-set ws m (getD ws m 0 - s)
 
-pub wsum-lose : (f : ℕ → ℕ) (s : ℕ) (ms ws : List ℕ) → Distinct ms → All (Holds s ws) ms → wsum f (lose s ms ws) + s * count f ms ≡ wsum f ws
+pub wsum-lose : (f : ℕ → ℕ) (s : ℕ) (ms ws : List ℕ) → Distinct ms → All (Holds s ws) ms → wsum f (lose s ms ws) + s * sumOver f ms ≡ wsum f ws
 wsum-lose f s [] ws d h = omega arith
 wsum-lose f s (m ∷ ms) ws d h =
     let w : ℕ = getD ws m 0 - s in
@@ -105,11 +105,11 @@ wsum-above s u (suc c) i h = go (wsum-above s u c (suc i) (omega arith)) (below-
 
 -- ---- bounds
 
-pub count-one : (ms : List ℕ) → count (λ m. 1) ms ≡ length ms
+pub count-one : (ms : List ℕ) → sumOver (λ m. 1) ms ≡ length ms
 count-one [] = refl
 count-one (m ∷ ms) = omega (arith, count-one ms)
 
-pub count-le : (f : ℕ → ℕ) (ms : List ℕ) → ((m : ℕ) → f m ≤ 1) → count f ms ≤ length ms
+pub count-le : (f : ℕ → ℕ) (ms : List ℕ) → ((m : ℕ) → f m ≤ 1) → sumOver f ms ≤ length ms
 count-le f [] h = zero-le
 count-le f (m ∷ ms) h = omega (arith, h m, count-le f ms h)
 

@@ -18,8 +18,8 @@ use Rattle.cores.specs.declared.level.LevelTables.{LevelTables}
 use Rattle.cores.specs.Sums.{ind, wsum}
 use Rattle.cores.specs.Identity.{violatedWeight}
 use Rattle.cores.specs.Soft.{Kind, entry, coreNumber, coreOf, kindAt, violated, Earlier, InOrder}
-use Rattle.cores.specs.Judging.{Judging, judging, kindFrom, kindIn, kindsIn, membersIn, coresIn, violatedIn, Formed}
-use Rattle.cores.specs.Tables.{noSoft, heldIn, kindOf, levelOf, FormedTables, Sound, levelJudging, Filled}
+use Rattle.cores.specs.Judging.{Judging, judging, kindFrom, kindIn, kindsIn, membersIn, coresIn, violatedAt, FormedJudging}
+use Rattle.cores.specs.Tables.{noSoft, heldIn, kindOf, levelOf, FormedTables, SoundTables, levelJudging, Filled}
 use Rattle.cores.specs.Columns.{Columns, columns, Long, putColumns, unpackedFrom, unpackedOf}
 use Rattle.cores.proofs.Sums.{below-or, wsum-ext}
 use Rattle.cores.proofs.Members.{all-at}
@@ -144,7 +144,7 @@ module _ (t : LevelTables) (f : FormedTables t) where
       ∙ span-ext (membersIn (J .ends) (J .members)) (membersIn (t .ends) (t .members)) 0 (t .cores) (λ j l h. core-is j (omega arith))
 
   -- SO JUDGING BY THE COLUMNS IS JUDGING ON THE LEVEL
-  pub judging-level : (M : Set) (p : ℕ) → violatedIn J M p ≡ violated M (levelOf t .kinds) (levelOf t .cores) p
+  pub judging-level : (M : Set) (p : ℕ) → violatedAt J M p ≡ violated M (levelOf t .kinds) (levelOf t .cores) p
   judging-level M p = ap₂ (λ (ks : List Kind) (cs : List (List ℕ)). violated M ks cs p) kinds-are cores-same
 
   number-at : (p : ℕ) → getD (J .cores) p 0 ≡ coreNumber (kindAt (levelOf t .kinds) p)
@@ -196,7 +196,7 @@ module _ (t : LevelTables) (f : FormedTables t) where
         go (inr h) = absurd (omega (arith, List·getD-eq-default (J .ends) 0 {n = j + 1} (omega (arith, ends-long))))
 
     -- THE COLUMNS ARE IN SHAPE
-    pub judging-formed : Formed J
+    pub judging-formed : FormedJudging J
     judging-formed = record {
       cores-len = length-map S coreIx ∙ sym (length-map S literalOf);
       indices-len = length-map S indexOf ∙ sym (length-map S literalOf);
@@ -223,17 +223,17 @@ module _ (t : LevelTables) (c : Columns) where
       ∙ ap₂ (λ (js is : List ℕ). judging (levelJudging t .literals) js is (take (t .cores + 1) (t .ends)) (take (heldIn t) (t .members))) (q .cores) (q .indices)
 
   -- THE ARRAYS ARE IN SHAPE, AND JUDGING BY THEM IS JUDGING ON THE LEVEL
-  pub cut-formed : Sound t → Filled t c → Formed cutJudging
-  cut-formed s q = subst Formed (sym (cut-is q)) (judging-formed t (s .formed) (s .ordered))
+  pub cut-formed : SoundTables t → Filled t c → FormedJudging cutJudging
+  cut-formed s q = subst FormedJudging (sym (cut-is q)) (judging-formed t (s .formed) (s .ordered))
 
-  pub cut-violated : Sound t → Filled t c → (M : Set) (p : ℕ) → violatedIn cutJudging M p ≡ violated M (levelOf t .kinds) (levelOf t .cores) p
-  cut-violated s q M p = ap (λ (j : Judging). violatedIn j M p) (cut-is q) ∙ judging-level t (s .formed) M p
+  pub cut-violated : SoundTables t → Filled t c → (M : Set) (p : ℕ) → violatedAt cutJudging M p ≡ violated M (levelOf t .kinds) (levelOf t .cores) p
+  cut-violated s q M p = ap (λ (j : Judging). violatedAt j M p) (cut-is q) ∙ judging-level t (s .formed) M p
 
-  pub cut-length : Sound t → Filled t c → length (cutJudging .literals) ≡ t .count
+  pub cut-length : SoundTables t → Filled t c → length (cutJudging .literals) ≡ t .count
   cut-length s q = ap length (q .literals) ∙ length-map (take (t .count) (t .softs)) literalOf ∙ length-take-le (t .count) (t .softs) (omega (arith, s .formed .softs-len, s .formed .softs-few))
 
 -- what the code asks where it cuts them
-module _ {t : LevelTables} (s : Sound t) {ls : List ℤ} {js is ws : List ℕ} (q : Filled t (columns ls js is ws)) where
+module _ {t : LevelTables} (s : SoundTables t) {ls : List ℤ} {js is ws : List ℕ} (q : Filled t (columns ls js is ws)) where
   pub reach-literals : t .count ≤ length ls
   reach-literals = omega (arith, s .formed .softs-few, q .long .literals)
 
@@ -263,10 +263,10 @@ module _ {t : LevelTables} (s : Sound t) {ls : List ℤ} {js is ws : List ℕ} (
 
   -- the sum over the cut arrays is the level's
   pub cut-sum : (M : Set)
-      → wsum (λ p. ind (violatedIn (judging (take (t .count) ls) (take (t .count) js) (take (t .count) is) (take (t .cores + 1) (t .ends)) (take (heldIn t) (t .members))) M p)) (take (t .count) ws)
+      → wsum (λ p. ind (violatedAt (judging (take (t .count) ls) (take (t .count) js) (take (t .count) is) (take (t .cores + 1) (t .ends)) (take (heldIn t) (t .members))) M p)) (take (t .count) ws)
       ≡ violatedWeight M (levelOf t)
   cut-sum M =
-      ap (wsum (λ p. ind (violatedIn (cutJudging t (columns ls js is ws)) M p))) (q .weights)
+      ap (wsum (λ p. ind (violatedAt (cutJudging t (columns ls js is ws)) M p))) (q .weights)
       ∙ wsum-ext _ _ (levelOf t .rests) (λ p h. ap ind (cut-violated t (columns ls js is ws) s q M p))
 
 pub cut-long : {A : Type 0} (l : List A) (n : ℕ) → n ≤ length l → n ≡ length (take n l)

@@ -55,12 +55,12 @@ pub record Listed : Type 0 where
   pub places : List ℕ
   pub count : ℕ
 
-abbrev pub listed : List ℕ → ℕ → Listed
-listed ps n = record { places = ps; count = n }
+abbrev pub listedPlaces : List ℕ → ℕ → Listed
+listedPlaces ps n = record { places = ps; count = n }
 
 -- "A question assumes the wishes with remaining weight at least the stratum."
 abbrev pub assumedOf : ℕ → List ℕ → List ℕ → Listed
-assumedOf s ws ps = listed (sets ps 0 (assumedFrom s 0 ws)) (length (assumedFrom s 0 ws))
+assumedOf s ws ps = listedPlaces (sets ps 0 (assumedFrom s 0 ws)) (length (assumedFrom s 0 ws))
 
 -- those of the places that are an entry's: core 0
 abbrev pub entriesAmong : List ℕ → List ℕ → List ℕ
@@ -90,5 +90,5 @@ abbrev pub putEntry : List ℕ → List ℤ → ℕ → Paired → Paired
 putEntry js ls p t = pick (eqb (getD js p 0) 0) (paired (putPair ls (t .count) p (t .pairs)) (t .count + 1)) t
 
 -- the places ps and what they wish for, at the front
-abbrev pub entriesOf : List ℤ → List ℕ → Pairs → Paired
-entriesOf ls ps t = paired (pairs (sets (t .places) 0 ps) (sets (t .wishes) 0 (map (λ (p : ℕ). negℤ (getD ls p (pos 0))) ps))) (length ps)
+abbrev pub entryColumns : List ℤ → List ℕ → Pairs → Paired
+entryColumns ls ps t = paired (pairs (sets (t .places) 0 ps) (sets (t .wishes) 0 (map (λ (p : ℕ). negℤ (getD ls p (pos 0))) ps))) (length ps)

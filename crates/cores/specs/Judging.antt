@@ -40,15 +40,15 @@ membersIn ends members j = slice (getD ends j 0) (getD ends (j + 1) 0) members
 abbrev pub coresIn : Judging → List (List ℕ)
 coresIn t = span (membersIn (t .ends) (t .members)) 0 (length (t .ends) - 1)
 
-abbrev pub violatedIn : Judging → Set → ℕ → Bool
-violatedIn t M p = violated M (kindsIn t) (coresIn t) p
+abbrev pub violatedAt : Judging → Set → ℕ → Bool
+violatedAt t M p = violated M (kindsIn t) (coresIn t) p
 
 -- how many members of core j are violated
 abbrev pub countIn : Judging → Set → ℕ → ℕ
-countIn t M j = countBy (violatedIn t M) (coreOf (coresIn t) j)
+countIn t M j = countBy (violatedAt t M) (coreOf (coresIn t) j)
 
 -- the tables are in shape; the core number falls from a soft literal to its core's members
-pub record Formed (t : Judging) : Type 0 where
+pub record FormedJudging (t : Judging) : Type 0 where
   pub cores-len : length (t .cores) ≡ length (t .literals)
   pub indices-len : length (t .indices) ≡ length (t .literals)
   pub some : 1 ≤ length (t .ends)

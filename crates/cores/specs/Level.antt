@@ -75,11 +75,11 @@ held [] = 0
 held (ms ∷ cs) = length ms + held cs
 
 -- "A level holds 4,096 wishes and 4,096 core members. If a core would pass either, it isn't recorded": a core of n members, at k soft literals and h members
-abbrev pub fits : ℕ → ℕ → ℕ → Bool
-fits k h n = leb (k + (n - 1)) 4096 && leb (h + n) 4096
+abbrev pub coreFits : ℕ → ℕ → ℕ → Bool
+coreFits k h n = leb (k + (n - 1)) 4096 && leb (h + n) 4096
 
 abbrev pub room : Level → List ℕ → Bool
-room l ms = fits (length (l .kinds)) (held (l .cores)) (length ms)
+room l ms = coreFits (length (l .kinds)) (held (l .cores)) (length ms)
 
 -- ---- the entries of a text: at most 512, of atoms 1 to 1,024, with weights of at most 1,000,000
 

@@ -9,7 +9,7 @@ use lib.ListN.{length, getD}
 use Rattle.asp.specs.Sets.{Set}
 use Rattle.asp.specs.Program.{Literal, All}
 use Rattle.asp.specs.Stable.{holds}
-use Rattle.cores.specs.Sums.{ind, count}
+use Rattle.cores.specs.Sums.{ind, sumOver}
 
 -- A soft literal. `entry l`: "each entry with weight above 0 is a wish for its literal's complement"; l is the entry's literal, which violates it.
 -- `derived j i`: a derived wish, the i-th of core j, both counted from 1.
@@ -33,7 +33,7 @@ kindAt ks p = getD ks p (entry (pos 0))
 
 -- how many of the members U says to be violated
 abbrev pub countBy : (ℕ → Bool) → List ℕ → ℕ
-countBy U ms = count (λ m. ind (U m)) ms
+countBy U ms = sumOver (λ m. ind (U m)) ms
 
 -- Is a soft literal violated, if those are that U names? "the i-th (i from 1) holds when at most i members are unmet"
 abbrev pub judge : Set → List (List ℕ) → (ℕ → Bool) → Kind → Bool

@@ -16,9 +16,9 @@ wsum f [] = 0
 wsum f (w ∷ ws) = w * f 0 + wsum (λ p. f (suc p)) ws
 
 -- Σ over the members m of f m
-abbrev pub count : (ℕ → ℕ) → List ℕ → ℕ
-count f [] = 0
-count f (m ∷ ms) = f m + count f ms
+abbrev pub sumOver : (ℕ → ℕ) → List ℕ → ℕ
+sumOver f [] = 0
+sumOver f (m ∷ ms) = f m + sumOver f ms
 
 -- m is none of the members
 abbrev pub Out : ℕ → List ℕ → Type 0

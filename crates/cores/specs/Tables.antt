@@ -14,7 +14,7 @@ use Rattle.asp.specs.Tables.{span}
 use Rattle.cores.specs.declared.soft.Soft.{Soft}
 use Rattle.cores.specs.declared.level.LevelTables.{LevelTables}
 use Rattle.cores.specs.Soft.{Kind, InOrder}
-use Rattle.cores.specs.Level.{Level, weighty, fits}
+use Rattle.cores.specs.Level.{Level, weighty, coreFits}
 use Rattle.cores.specs.Judging.{Judging, judging, kindFrom, membersIn}
 use Rattle.cores.specs.Columns.{Columns, Long}
 
@@ -99,7 +99,7 @@ tried b t = record { full = b; tables = t }
 
 -- "If a core would pass either, it isn't recorded and the status is full."
 abbrev pub triedTables : LevelTables → ℕ → List ℕ → Tried
-triedTables t s ms = pick (fits (t .count) (heldIn t) (length ms)) (tried false (recordedTables t s ms)) (tried true t)
+triedTables t s ms = pick (coreFits (t .count) (heldIn t) (length ms)) (tried false (recordedTables t s ms)) (tried true t)
 
 -- ---- what the tables mean
 
@@ -129,7 +129,7 @@ pub record FormedTables (t : LevelTables) : Type 0 where
   pub small : All (λ (r : Soft). natAbs (r .literal) ≤ 1024) (take (t .count) (t .softs))
 
 -- the tables are in shape, and the core number falls
-pub record Sound (t : LevelTables) : Type 0 where
+pub record SoundTables (t : LevelTables) : Type 0 where
   pub formed : FormedTables t
   pub ordered : InOrder (levelOf t .kinds) (levelOf t .cores)
 

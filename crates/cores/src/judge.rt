@@ -8,7 +8,7 @@ ghost use lib.ListN.{length, getD, set};
 ghost use Rattle.asp.specs.Program.{All};
 ghost use Rattle.asp.specs.Sets.{setOf};
 ghost use Rattle.asp.specs.Stable.{holds};
-ghost use Rattle.cores.specs.Judging.{judging, violatedIn, Formed, Known, Answers, Counts, firstViolated};
+ghost use Rattle.cores.specs.Judging.{judging, violatedAt, FormedJudging, Known, Answers, Counts, firstViolated};
 use crate::table::at;
 
 // What is found in a list of places: the first that is violated.
@@ -47,11 +47,11 @@ pub fn violated<'a>(
     model: &'a [u8],
     counts: &mut [u16],
 ) -> bool
-    requires { ⌜ Formed (judging (now literals) (now cores) (now indices) (now ends) (now members)) ⌝ }
+    requires { ⌜ FormedJudging (judging (now literals) (now cores) (now indices) (now ends) (now members)) ⌝ }
     requires { ⌜ p < length (now literals) ⌝ }
     requires { ⌜ 1024 < length (now model) ⌝ }
     requires { ⌜ Known (judging (now literals) (now cores) (now indices) (now ends) (now members)) (setOf (now model)) (now counts) ⌝ }
-    ensures { λ r. ⌜ Answers (judging (now (literals .entry)) (now (cores .entry)) (now (indices .entry)) (now (ends .entry)) (now (members .entry))) (setOf (now (model .entry))) (now (counts .entry)) r (violatedIn (judging (now (literals .entry)) (now (cores .entry)) (now (indices .entry)) (now (ends .entry)) (now (members .entry))) (setOf (now (model .entry))) p) (now (counts .exit)) ⌝ }
+    ensures { λ r. ⌜ Answers (judging (now (literals .entry)) (now (cores .entry)) (now (indices .entry)) (now (ends .entry)) (now (members .entry))) (setOf (now (model .entry))) (now (counts .entry)) r (violatedAt (judging (now (literals .entry)) (now (cores .entry)) (now (indices .entry)) (now (ends .entry)) (now (members .entry))) (setOf (now (model .entry))) p) (now (counts .exit)) ⌝ }
 {
     let j = at(cores, p);
     if j == 0 {
@@ -72,7 +72,7 @@ pub fn count<'a>(
     model: &'a [u8],
     counts: &mut [u16],
 ) -> usize
-    requires { ⌜ Formed (judging (now literals) (now cores) (now indices) (now ends) (now members)) ⌝ }
+    requires { ⌜ FormedJudging (judging (now literals) (now cores) (now indices) (now ends) (now members)) ⌝ }
     requires { ⌜ (1 ≤ j) × (j < length (now ends)) ⌝ }
     requires { ⌜ 1024 < length (now model) ⌝ }
     requires { ⌜ Known (judging (now literals) (now cores) (now indices) (now ends) (now members)) (setOf (now model)) (now counts) ⌝ }
@@ -107,11 +107,11 @@ pub fn first_violated<'a>(
     model: &'a [u8],
     counts: &mut [u16],
 ) -> Judged
-    requires { ⌜ Formed (judging (now literals) (now cores) (now indices) (now ends) (now members)) ⌝ }
+    requires { ⌜ FormedJudging (judging (now literals) (now cores) (now indices) (now ends) (now members)) ⌝ }
     requires { ⌜ All (λ m. m < length (now literals)) (now places) ⌝ }
     requires { ⌜ 1024 < length (now model) ⌝ }
     requires { ⌜ Known (judging (now literals) (now cores) (now indices) (now ends) (now members)) (setOf (now model)) (now counts) ⌝ }
-    ensures { λ r. ⌜ Answers (judging (now (literals .entry)) (now (cores .entry)) (now (indices .entry)) (now (ends .entry)) (now (members .entry))) (setOf (now (model .entry))) (now (counts .entry)) r (firstViolated (violatedIn (judging (now (literals .entry)) (now (cores .entry)) (now (indices .entry)) (now (ends .entry)) (now (members .entry))) (setOf (now (model .entry)))) (now (places .entry))) (now (counts .exit)) ⌝ }
+    ensures { λ r. ⌜ Answers (judging (now (literals .entry)) (now (cores .entry)) (now (indices .entry)) (now (ends .entry)) (now (members .entry))) (setOf (now (model .entry))) (now (counts .entry)) r (firstViolated (violatedAt (judging (now (literals .entry)) (now (cores .entry)) (now (indices .entry)) (now (ends .entry)) (now (members .entry))) (setOf (now (model .entry)))) (now (places .entry))) (now (counts .exit)) ⌝ }
 {
     let mut i: usize = 0;
     while i < places.len() {
@@ -135,11 +135,11 @@ pub fn judge_both<'a>(
     members: &'a [u16],
     model: &'a [u8],
 ) -> Judged
-    requires { ⌜ Formed (judging (now literals) (now cores) (now indices) (now ends) (now members)) ⌝ }
+    requires { ⌜ FormedJudging (judging (now literals) (now cores) (now indices) (now ends) (now members)) ⌝ }
     requires { ⌜ All (λ m. m < length (now literals)) (now places) ⌝ }
     requires { ⌜ All (λ m. m < length (now literals)) (now more) ⌝ }
     requires { ⌜ 1024 < length (now model) ⌝ }
-    ensures { λ r. ⌜ r ≡ firstViolated (violatedIn (judging (now (literals .entry)) (now (cores .entry)) (now (indices .entry)) (now (ends .entry)) (now (members .entry))) (setOf (now (model .entry)))) (now (places .entry) ++ now (more .entry)) ⌝ }
+    ensures { λ r. ⌜ r ≡ firstViolated (violatedAt (judging (now (literals .entry)) (now (cores .entry)) (now (indices .entry)) (now (ends .entry)) (now (members .entry))) (setOf (now (model .entry)))) (now (places .entry) ++ now (more .entry)) ⌝ }
 {
     let mut counts = [0u16; 4097];
     let first = first_violated(

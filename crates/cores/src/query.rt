@@ -8,7 +8,7 @@ ghost use lib.ListN.{length, getD};
 ghost use lib.IntN.{pos, negℤ, natAbs};
 ghost use Rattle.asp.specs.Program.{All};
 ghost use Rattle.cores.specs.Level.{under};
-ghost use Rattle.cores.specs.Columns.{columns, raisedBy, putColumns, unpackedOf, restsOf, listed, assumedOf, pairs, paired, putEntry, entriesAmong, entriesOf};
+ghost use Rattle.cores.specs.Columns.{columns, raisedBy, putColumns, unpackedOf, restsOf, listedPlaces, assumedOf, pairs, paired, putEntry, entriesAmong, entryColumns};
 
 // One record's fields at place i.
 fn put_columns(
@@ -106,7 +106,7 @@ fn place(i: usize) -> u16
 // The places of the soft literals with weight s at least, at the front of a lent array; and how many.
 pub fn assumed(weights: &[u32], s: u32, places: &mut [u16; 4096]) -> usize
     requires { ⌜ length (now weights) ≤ 4096 ⌝ }
-    ensures { λ r. ⌜ listed (now (places .exit)) r ≡ assumedOf s (now (weights .entry)) (now (places .entry)) ⌝ }
+    ensures { λ r. ⌜ listedPlaces (now (places .exit)) r ≡ assumedOf s (now (weights .entry)) (now (places .entry)) ⌝ }
 {
     let mut n: usize = 0;
     let mut i: usize = 0;
@@ -166,7 +166,7 @@ pub fn entries<'a>(
     requires { ⌜ length (now cores) ≡ length (now literals) ⌝ }
     requires { ⌜ All (λ m. m < length (now literals)) (now assumed) ⌝ }
     requires { ⌜ ((p : ℕ) → natAbs (getD (now literals) p (pos 0)) ≤ 1024) ⌝ }
-    ensures { λ r. ⌜ paired (pairs (now (places .exit)) (now (wishes .exit))) r ≡ entriesOf (now (literals .entry)) (entriesAmong (now (cores .entry)) (now (assumed .entry))) (pairs (now (places .entry)) (now (wishes .entry))) ⌝ }
+    ensures { λ r. ⌜ paired (pairs (now (places .exit)) (now (wishes .exit))) r ≡ entryColumns (now (literals .entry)) (entriesAmong (now (cores .entry)) (now (assumed .entry))) (pairs (now (places .entry)) (now (wishes .entry))) ⌝ }
 {
     let mut n: usize = 0;
     let mut i: usize = 0;

@@ -9,7 +9,7 @@ ghost use Prim.Native.Nat.{ℕ, _+_, _-_, _<_, _≤_};
 ghost use lib.ListN.{length, getD};
 ghost use lib.Seq.{sets};
 ghost use Rattle.asp.specs.Program.{All};
-ghost use Rattle.cores.specs.Level.{fits};
+ghost use Rattle.cores.specs.Level.{coreFits};
 ghost use Rattle.cores.specs.Tables.{lighten, newSofts, recordedTables, Counted, Room, tried, triedTables};
 
 // Each member loses s.
@@ -62,7 +62,7 @@ pub fn has_room(count: usize, held: usize, n: usize) -> bool
     requires { ⌜ count ≤ 4096 ⌝ }
     requires { ⌜ held ≤ 4096 ⌝ }
     requires { ⌜ (1 ≤ n) × (n ≤ 4096) ⌝ }
-    ensures { λ r. ⌜ r ≡ fits count held n ⌝ }
+    ensures { λ r. ⌜ r ≡ coreFits count held n ⌝ }
 {
     count + (n - 1) <= 4096 && held + n <= 4096
 }

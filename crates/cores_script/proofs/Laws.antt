@@ -19,8 +19,8 @@ use mir.Val.{toZ, ofZ}
 use mir.Facts.{toZ-ofZ}
 use Rattle.cores.specs.Level.{FormedEntries, assumedFrom}
 use Rattle.cores.specs.declared.level.LevelTables.{LevelTables}
-use Rattle.cores.specs.Tables.{emptyTables, openedTables, Sound}
-use Rattle.cores.specs.Columns.{Listed, listed, assumedOf}
+use Rattle.cores.specs.Tables.{emptyTables, openedTables, SoundTables}
+use Rattle.cores.specs.Columns.{Listed, listedPlaces, assumedOf}
 use Rattle.cores.proofs.Sums.{below-or}
 use Rattle.cores.proofs.Members.{at-all}
 use Rattle.cores.proofs.Spans.{length-span}
@@ -82,7 +82,7 @@ all-span P f i zero h = tt
 all-span P f i (suc k) h = (h i, all-span P f (i + 1) k h)
 
 pub opens-sound : (ps ls : List ℤ) (ws : List ℕ) (n : ℕ) (q : ℤ) → n ≤ 512 → ((i : ℕ) → natAbs (getD ls i (pos 0)) ≤ 1024) → ((i : ℕ) → getD ws i 0 ≤ 1000000)
-    → Sound (openedTables (level q (entriesOf ps ls ws n)))
+    → SoundTables (openedTables (level q (entriesOf ps ls ws n)))
 opens-sound ps ls ws n q h a w =
     opened-sound (level q (entriesOf ps ls ws n)) (level-formed (entriesOf ps ls ws n) (record {
       few = omega (arith, length-span (entryAt ps ls ws) 0 n);
@@ -110,17 +110,17 @@ module _ (w : World) (f : Fine w) where
     sound = f .sound;
   }
 
-  pub fine-tables : (t : LevelTables) → Sound t → Fine (record { priorities = w .priorities; literals = w .literals; weights = w .weights; entries = w .entries; tables = t })
+  pub fine-tables : (t : LevelTables) → SoundTables t → Fine (record { priorities = w .priorities; literals = w .literals; weights = w .weights; entries = w .entries; tables = t })
   fine-tables t s = record { few = f .few; priorities-len = f .priorities-len; literals-len = f .literals-len; weights-len = f .weights-len; atoms = f .atoms; weights = f .weights; sound = s }
 
-  pub fine-open : {t : LevelTables} (q : ℤ) → t ≡ openedTables (level q (entriesOf (w .priorities) (w .literals) (w .weights) (w .entries))) → Sound t
+  pub fine-open : {t : LevelTables} (q : ℤ) → t ≡ openedTables (level q (entriesOf (w .priorities) (w .literals) (w .weights) (w .entries))) → SoundTables t
   fine-open q e = rw e (opens-sound (w .priorities) (w .literals) (w .weights) (w .entries) q (f .few) (f .atoms) (f .weights))
 
 pub some-core : (ms : List ℕ) → (length ms ≡ 0 → ⊥) → 1 ≤ length ms
 some-core [] h = absurd (h refl)
 some-core (m ∷ ms) h = omega arith
 
-pub within-table : (t : LevelTables) → Sound t → (ms : List ℕ) → All (λ m. m < t .count) ms → All (λ m. m < 4096) ms
+pub within-table : (t : LevelTables) → SoundTables t → (ms : List ℕ) → All (λ m. m < t .count) ms → All (λ m. m < 4096) ms
 within-table t s ms a = all-map ms (λ m h. omega (arith, s .formed .softs-few)) a
 
 zeros : (i : ℕ) → natAbs (getD (replicate 512 (pos 0)) i (pos 0)) ≤ 1024
@@ -150,5 +150,5 @@ fine-fresh e = record {
 
 -- ---- the list of assumed places, as an array
 
-pub assumed-long : (s : ℕ) (ws ps : List ℕ) {qs : List ℕ} {n : ℕ} → listed qs n ≡ assumedOf s ws ps → length ps ≡ 4096 → length qs ≡ 4096
+pub assumed-long : (s : ℕ) (ws ps : List ℕ) {qs : List ℕ} {n : ℕ} → listedPlaces qs n ≡ assumedOf s ws ps → length ps ≡ 4096 → length qs ≡ 4096
 assumed-long s ws ps {qs} {n} e h = ap (λ (l : Listed). length (l .places)) e ∙ length-sets ps 0 (assumedFrom s 0 ws) ∙ h

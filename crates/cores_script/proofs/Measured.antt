@@ -14,8 +14,8 @@ use Rattle.cores.specs.declared.level.LevelTables.{LevelTables}
 use Rattle.cores.specs.Sums.{ind, wsum}
 use Rattle.cores.specs.Soft.{violated}
 use Rattle.cores.specs.Identity.{violatedWeight}
-use Rattle.cores.specs.Judging.{Judging, judging, violatedIn, Known, Answers, Formed}
-use Rattle.cores.specs.Tables.{levelOf, Sound}
+use Rattle.cores.specs.Judging.{Judging, judging, violatedAt, Known, Answers, FormedJudging}
+use Rattle.cores.specs.Tables.{levelOf, SoundTables}
 use Rattle.cores.proofs.Sums.{wsum-ext}
 
 pub plus-yes : (n w : ℕ) (b : Bool) → b ≡ true → n + w ≡ n + w * ind b
@@ -34,14 +34,14 @@ pub record Summing (t : Judging) (M : Set) (ws counts : List ℕ) (total p : ℕ
   pub known : Known t M counts
   pub below : p ≤ length ws
   pub bound : total ≤ p * 4294967296
-  pub rest : total + after (λ q. ind (violatedIn t M q)) p ws ≡ wsum (λ q. ind (violatedIn t M q)) ws
+  pub rest : total + after (λ q. ind (violatedAt t M q)) p ws ≡ wsum (λ q. ind (violatedAt t M q)) ws
 
 pub sum-start : {t : Judging} {M : Set} {counts : List ℕ} → Known t M counts → (ws : List ℕ) → Summing t M ws counts 0 0
 sum-start {t} {M} k ws = record {
   known = k;
   below = zero-le;
   bound = zero-le;
-  rest = zero-add _ ∙ wsum-ext _ _ ws (λ q h. ap (λ (x : ℕ). ind (violatedIn t M x)) (zero-add q));
+  rest = zero-add _ ∙ wsum-ext _ _ ws (λ q h. ap (λ (x : ℕ). ind (violatedAt t M x)) (zero-add q));
 }
 
 after-next : (f : ℕ → ℕ) (p : ℕ) (ws : List ℕ) → p < length ws → after f p ws ≡ getD ws p 0 * f p + after f (p + 1) ws
@@ -61,16 +61,16 @@ module _ {t : Judging} {M : Set} {ws counts : List ℕ} {total p : ℕ} where
   pub sum-fits : Summing t M ws counts total p → length ws ≤ 4096 → p < length ws → total ≤ 17592186044416
   sum-fits s h l = omega (arith, s .bound)
 
-  pub sum-next : Summing t M ws counts total p → p < length ws → {b : Bool} {c : List ℕ} → Answers t M counts b (violatedIn t M p) c
+  pub sum-next : Summing t M ws counts total p → p < length ws → {b : Bool} {c : List ℕ} → Answers t M counts b (violatedAt t M p) c
       → {w : ℕ} → w ≡ getD ws p 0 → w < 4294967296 → {n : ℕ} → n ≡ total + w * ind b → Summing t M ws c n (p + 1)
   sum-next s h {b} {c} a {w} ew small {n} en =
-      let e : w * ind b ≡ getD ws p 0 * ind (violatedIn t M p) = ap₂ (λ (x : ℕ) (y : Bool). x * ind y) ew (a .is) in
+      let e : w * ind b ≡ getD ws p 0 * ind (violatedAt t M p) = ap₂ (λ (x : ℕ) (y : Bool). x * ind y) ew (a .is) in
       record {
         known = a .known;
         below = omega arith;
-        bound = omega (arith, s .bound, small-weight (λ q. ind (violatedIn t M q)) ws p 4294967296 (ind-small (violatedIn t M p)) (omega arith));
-        rest = omega (arith, s .rest, after-next (λ q. ind (violatedIn t M q)) p ws h);
+        bound = omega (arith, s .bound, small-weight (λ q. ind (violatedAt t M q)) ws p 4294967296 (ind-small (violatedAt t M p)) (omega arith));
+        rest = omega (arith, s .rest, after-next (λ q. ind (violatedAt t M q)) p ws h);
       }
 
-  pub sum-end : Summing t M ws counts total p → length ws ≤ p → total ≡ wsum (λ q. ind (violatedIn t M q)) ws
-  sum-end s h = omega (arith, s .rest, ap (wsum (λ q. ind (violatedIn t M (p + q)))) (drop-of-length-le ws {i = p} h))
+  pub sum-end : Summing t M ws counts total p → length ws ≤ p → total ≡ wsum (λ q. ind (violatedAt t M q)) ws
+  sum-end s h = omega (arith, s .rest, ap (wsum (λ q. ind (violatedAt t M (p + q)))) (drop-of-length-le ws {i = p} h))

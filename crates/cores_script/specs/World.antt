@@ -3,7 +3,7 @@ use Prim.Native.Nat.{ℕ, _≤_}
 use mathlib.Core.Path.{_≡_}
 use lib.IntN.{pos, natAbs}
 use lib.ListN.{length, getD}
-use Rattle.cores.specs.Tables.{Sound}
+use Rattle.cores.specs.Tables.{SoundTables}
 use Rattle.cores_script.specs.declared.World.{World}
 use Rattle.cores_script.specs.declared.Turn.{Turn}
 
@@ -14,7 +14,7 @@ pub record Fine (w : World) : Type 0 where
   pub weights-len : length (w .weights) ≡ 512
   pub atoms : (i : ℕ) → natAbs (getD (w .literals) i (pos 0)) ≤ 1024
   pub weights : (i : ℕ) → getD (w .weights) i 0 ≤ 1000000
-  pub sound : Sound (w .tables)
+  pub sound : SoundTables (w .tables)
 
 -- after a statement that ends at a place of the text
 pub record Done (t : Turn) (n : ℕ) : Type 0 where

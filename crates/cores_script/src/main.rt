@@ -11,7 +11,7 @@ ghost use mathlib.Core.Path.{_≡_};
 ghost use mathlib.Core.Bool.{true};
 ghost use Prim.Native.Nat.{ℕ, _≤_, _<_};
 ghost use Rattle.asp.specs.Program.{All};
-ghost use Rattle.cores.specs.Tables.{Sound};
+ghost use Rattle.cores.specs.Tables.{SoundTables};
 ghost use lib.IntN.{pos, natAbs};
 ghost use lib.ListN.{length, getD};
 ghost use Rattle.cores_script.specs.World.{Fine, Done};
@@ -330,7 +330,7 @@ fn set(w: World, text: &[u8], n: usize, from: usize) -> Turn
 
 // The next stratum below s, how many are assumed at s, and how many of them are an entry's.
 fn strata(t: LevelTables, s: u32)
-    requires { ⌜ Sound t ⌝ }
+    requires { ⌜ SoundTables t ⌝ }
 {
     let mut literals = [0i32; 4096];
     let mut numbers = [0u16; 4096];

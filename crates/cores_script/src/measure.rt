@@ -7,8 +7,8 @@ ghost use lib.ListN.{length};
 ghost use Rattle.asp.specs.Sets.{setOf};
 ghost use Rattle.cores.specs.Sums.{ind, wsum};
 ghost use Rattle.cores.specs.Identity.{violatedWeight};
-ghost use Rattle.cores.specs.Judging.{judging, violatedIn, Formed};
-ghost use Rattle.cores.specs.Tables.{levelOf, Sound};
+ghost use Rattle.cores.specs.Judging.{judging, violatedAt, FormedJudging};
+ghost use Rattle.cores.specs.Tables.{levelOf, SoundTables};
 
 // The total, with w added if so.
 fn plus(total: u64, w: u32, yes: bool) -> u64
@@ -30,11 +30,11 @@ fn sum<'a>(
     members: &'a [u16],
     model: &'a [u8],
 ) -> u64
-    requires { ⌜ Formed (judging (now literals) (now cores) (now indices) (now ends) (now members)) ⌝ }
+    requires { ⌜ FormedJudging (judging (now literals) (now cores) (now indices) (now ends) (now members)) ⌝ }
     requires { ⌜ length (now weights) ≡ length (now literals) ⌝ }
     requires { ⌜ length (now weights) ≤ 4096 ⌝ }
     requires { ⌜ 1024 < length (now model) ⌝ }
-    ensures { λ r. ⌜ r ≡ wsum (λ p. ind (violatedIn (judging (now (literals .entry)) (now (cores .entry)) (now (indices .entry)) (now (ends .entry)) (now (members .entry))) (setOf (now (model .entry))) p)) (now (weights .entry)) ⌝ }
+    ensures { λ r. ⌜ r ≡ wsum (λ p. ind (violatedAt (judging (now (literals .entry)) (now (cores .entry)) (now (indices .entry)) (now (ends .entry)) (now (members .entry))) (setOf (now (model .entry))) p)) (now (weights .entry)) ⌝ }
 {
     let mut counts = [0u16; 4097];
     let mut total: u64 = 0;
@@ -57,7 +57,7 @@ fn sum<'a>(
 }
 
 pub fn violated_weight(t: LevelTables, model: &[u8]) -> u64
-    requires { ⌜ Sound t ⌝ }
+    requires { ⌜ SoundTables t ⌝ }
     requires { ⌜ 1024 < length (now model) ⌝ }
     ensures { λ r. ⌜ r ≡ violatedWeight (setOf (now (model .entry))) (levelOf t) ⌝ }
 {

@@ -7,7 +7,7 @@ use Rattle.aspif.specs.declared.text.Stored.{Stored}
 use Rattle.aspif.specs.declared.text.Loading.{Loading}
 use Rattle.aspif.specs.declared.text.Loading.the-variants.{Accepted}
 use Rattle.optimizer.specs.declared.state.Search.{Search}
-use Rattle.optimizer.specs.Finish.{freshSearch}
+use Rattle.optimizer.specs.State.{freshSearch}
 use Rattle.optimizer.specs.Run.{Reached}
 use Rattle.optimizer.proofs.Reached as reached
 use Rattle.planner.specs.Held.{sourceOf}

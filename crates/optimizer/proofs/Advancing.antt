@@ -8,7 +8,7 @@ use native.Mathlib.Numerals.{add-one}
 use lib.Dec.{ltb}
 use borrow.Author.Tests.{lt-ltb, le-ltb}
 use Rattle.asp.specs.Sets.{pick}
-use Rattle.search.specs.Places.{Places}
+use Rattle.search.specs.declared.trail.Places.{Places}
 use Rattle.cores.proofs.Sums.{below-or}
 use Rattle.optimizer.specs.declared.state.Phase.{Phase}
 use Rattle.optimizer.specs.declared.state.Blame.{Blame}
@@ -16,9 +16,10 @@ use Rattle.optimizer.specs.declared.state.Search.{Search}
 use Rattle.optimizer.specs.declared.state.Turn.{Turn}
 use Rattle.optimizer.specs.declared.state.Turn.the-variants.{Going, Without, Model}
 use Rattle.optimizer.specs.Source.{Source}
-use Rattle.optimizer.specs.Turn.{Query, Turned, turned, Turns, turns, oneMore, goOn, turnOf, turnsOf, isGoing}
-use Rattle.optimizer.specs.Finish.{search, trail, placesOf, afterTurns, finishTurn, workQuery, isRunning, bumped, advanceOf, advancesOf, madeBy}
-use Rattle.optimizer.specs.Run.{bumpedBy, Advances, advances, stepsOf, queryRun, ReadyRun, Steady, runOf}
+use Rattle.optimizer.specs.Turn.{QueryTables, Turned, turned, Turns, turns, oneMore, goOn, turnOf, turnsOf, isGoing}
+use Rattle.optimizer.specs.State.{search, isRunning}
+use Rattle.optimizer.specs.Advance.{afterTurns, finishTurn, workQuery, bumped, advanceOf, advancesOf, madeBy}
+use Rattle.optimizer.specs.Run.{bumpedBy, AfterRun, afterRun, stepsOf, queryRun, ReadyRun, Steady, runOf}
 
 -- ---- the figure
 
@@ -67,7 +68,7 @@ going-on x = go (x .turn)
     go Without = refl
     go Model = refl
 
-pub made-le : (S : Source) (q : Query) (k : ℕ) (t : Places) (b : Blame) → turnsOf S q k t b .made ≤ k
+pub made-le : (S : Source) (q : QueryTables) (k : ℕ) (t : Places) (b : Blame) → turnsOf S q k t b .made ≤ k
 unfolding turnsOf
 made-le S q zero t b = omega arith
 made-le S q (suc k) t b = go (isGoing (turnOf S q t b .turn)) (made-le S q k (turnOf S q t b .trail) (turnOf S q t b .blame))
@@ -77,18 +78,18 @@ made-le S q (suc k) t b = go (isGoing (turnOf S q t b .turn)) (made-le S q k (tu
     go true h = omega arith
     go false h = omega arith
 
-pub made-some : (S : Source) (q : Query) (k : ℕ) (t : Places) (b : Blame) → 1 ≤ k → 1 ≤ turnsOf S q k t b .made
+pub made-some : (S : Source) (q : QueryTables) (k : ℕ) (t : Places) (b : Blame) → 1 ≤ k → 1 ≤ turnsOf S q k t b .made
 unfolding turnsOf
 made-some S q zero t b h = absurd (omega arith)
 made-some S q (suc k) t b h = omega arith
 
 -- the state after an advance while the query goes on
-pub going-advance : (S : Source) (s : Search) → isRunning (s .phase) ≡ true → {x : Turned} → x ≡ turnOf S (workQuery (s .work)) (placesOf (s .trail)) (s .blame) → isGoing (x .turn) ≡ true
-    → advanceOf S s ≡ search (s .phase) (bumped (s .advances)) (trail (x .trail)) (x .blame) (s .work)
+pub going-advance : (S : Source) (s : Search) → isRunning (s .phase) ≡ true → {x : Turned} → x ≡ turnOf S (workQuery (s .work)) (s .trail) (s .blame) → isGoing (x .turn) ≡ true
+    → advanceOf S s ≡ search (s .phase) (bumped (s .advances)) (x .trail) (x .blame) (s .work)
 unfolding advanceOf
 going-advance S s p {x} e g = rw (p, ← e, g) refl
 
-pub ending-advance : (S : Source) (s : Search) → isRunning (s .phase) ≡ true → {x : Turned} → x ≡ turnOf S (workQuery (s .work)) (placesOf (s .trail)) (s .blame)
+pub ending-advance : (S : Source) (s : Search) → isRunning (s .phase) ≡ true → {x : Turned} → x ≡ turnOf S (workQuery (s .work)) (s .trail) (s .blame)
     → advanceOf S s ≡ finishTurn S (s .phase) (bumped (s .advances)) (s .work) x
 unfolding advanceOf
 ending-advance S s p {x} e = rw (p, ← e) refl
@@ -97,13 +98,13 @@ ending-advance S s p {x} e = rw (p, ← e) refl
 
 -- the state while the query goes on after a step that came to x
 abbrev onward : Search → Turned → Search
-onward s x = search (s .phase) (bumped (s .advances)) (trail (x .trail)) (x .blame) (s .work)
+onward s x = search (s .phase) (bumped (s .advances)) (x .trail) (x .blame) (s .work)
 
 -- the state after r
 abbrev reached : Source → Search → ℕ → Turns → Search
 reached S s c r = finishTurn S (s .phase) (bumpedBy (r .made) c) (s .work) (r .turned)
 
-more : (S : Source) (k : ℕ) (s : Search) → isRunning (s .phase) ≡ true → s .advances ≤ top → (x : Turned) → x ≡ turnOf S (workQuery (s .work)) (placesOf (s .trail)) (s .blame)
+more : (S : Source) (k : ℕ) (s : Search) → isRunning (s .phase) ≡ true → s .advances ≤ top → (x : Turned) → x ≡ turnOf S (workQuery (s .work)) (s .trail) (s .blame)
     → queryRun S k (onward s x) .search ≡ advancesOf S (queryRun S k (onward s x) .made) (onward s x) → (g : Bool) → isGoing (x .turn) ≡ g
     → reached S s (s .advances) (oneMore (pick g (stepsOf S k (onward s x)) (turns x 0))) ≡ advancesOf S (oneMore (pick g (stepsOf S k (onward s x)) (turns x 0)) .made) s
 unfolding advancesOf
@@ -118,8 +119,8 @@ pub steps-advance : (S : Source) (k : ℕ) (s : Search) → isRunning (s .phase)
 unfolding turnsOf advancesOf
 steps-advance S zero s p h = ap (λ (c : ℕ). search (s .phase) c (s .trail) (s .blame) (s .work)) (bumped-none (s .advances) h)
 steps-advance S (suc k) s p h =
-    more S k s p h (turnOf S (workQuery (s .work)) (placesOf (s .trail)) (s .blame)) refl
-    (steps-advance S k (onward s (turnOf S (workQuery (s .work)) (placesOf (s .trail)) (s .blame))) p (bumped-le (s .advances) h)) _ refl
+    more S k s p h (turnOf S (workQuery (s .work)) (s .trail) (s .blame)) refl
+    (steps-advance S k (onward s (turnOf S (workQuery (s .work)) (s .trail) (s .blame))) p (bumped-le (s .advances) h)) _ refl
 
 -- advances one after the other
 pub advances-plus : (S : Source) (j k : ℕ) (s : Search) → advancesOf S (j + k) s ≡ advancesOf S k (advancesOf S j s)
@@ -143,7 +144,7 @@ rest-made S zero s p = refl
 rest-made S (suc k) s p = rw p refl
 
 -- how many a run makes: those of the query, and those after it
-counted-more : (S : Source) (k : ℕ) (s : Search) → isRunning (s .phase) ≡ true → s .advances ≤ top → (x : Turned) → x ≡ turnOf S (workQuery (s .work)) (placesOf (s .trail)) (s .blame)
+counted-more : (S : Source) (k : ℕ) (s : Search) → isRunning (s .phase) ≡ true → s .advances ≤ top → (x : Turned) → x ≡ turnOf S (workQuery (s .work)) (s .trail) (s .blame)
     → madeBy S k (onward s x) ≡ stepsOf S k (onward s x) .made + madeBy S (k - stepsOf S k (onward s x) .made) (advancesOf S (stepsOf S k (onward s x) .made) (onward s x))
     → (g : Bool) → isGoing (x .turn) ≡ g
     → suc (madeBy S k (advanceOf S s)) ≡ suc (pick g (stepsOf S k (onward s x)) (turns x 0) .made) + madeBy S (suc k - suc (pick g (stepsOf S k (onward s x)) (turns x 0) .made)) (advancesOf S (pick g (stepsOf S k (onward s x)) (turns x 0) .made) (advanceOf S s))
@@ -162,8 +163,8 @@ unfolding turnsOf advancesOf madeBy
 steps-made S zero s p h = refl
 steps-made S (suc k) s p h =
     ap (λ (b : Bool). pick b (suc (madeBy S k (advanceOf S s))) 0) p
-    ∙ counted-more S k s p h (turnOf S (workQuery (s .work)) (placesOf (s .trail)) (s .blame)) refl
-    (steps-made S k (onward s (turnOf S (workQuery (s .work)) (placesOf (s .trail)) (s .blame))) p (bumped-le (s .advances) h)) _ refl
+    ∙ counted-more S k s p h (turnOf S (workQuery (s .work)) (s .trail) (s .blame)) refl
+    (steps-made S k (onward s (turnOf S (workQuery (s .work)) (s .trail) (s .blame))) p (bumped-le (s .advances) h)) _ refl
 
 none-made : (S : Source) (s : Search) (n : ℕ) → n + madeBy S 0 s ≡ n
 unfolding madeBy
@@ -184,31 +185,31 @@ module _ {S : Source} {budget : ℕ} {start s : Search} {made : ℕ} (i : Runnin
   pub running-ready : Steady S start → (k : ℕ) → ReadyRun S k s
   running-ready a k = subst (ReadyRun S k) (sym (i .at)) (a made k)
 
-  pub running-end : budget ≤ made → advances s made ≡ runOf S budget start
+  pub running-end : budget ≤ made → afterRun s made ≡ runOf S budget start
   running-end h =
       let e : made ≡ budget = omega (arith, i .below, h) in
       let z : budget - made ≡ 0 = omega arith in
-      ap₂ advances (i .at ∙ ap (λ (n : ℕ). advancesOf S n start) e) (sym (i .rest ∙ ap (λ (n : ℕ). made + madeBy S n s) z ∙ none-made S s made))
+      ap₂ afterRun (i .at ∙ ap (λ (n : ℕ). advancesOf S n start) e) (sym (i .rest ∙ ap (λ (n : ℕ). made + madeBy S n s) z ∙ none-made S s made))
 
-  pub running-rest : {b : Bool} → b ≡ isRunning (s .phase) → b ≡ false → advances s made ≡ runOf S budget start
+  pub running-rest : {b : Bool} → b ≡ isRunning (s .phase) → b ≡ false → afterRun s made ≡ runOf S budget start
   running-rest f g =
       let p : isRunning (s .phase) ≡ false = sym f ∙ g in
       let y : made + (budget - made) ≡ budget = omega (arith, i .below) in
-      ap₂ advances
+      ap₂ afterRun
       (sym (rest-advances S (budget - made) s p) ∙ ap (advancesOf S (budget - made)) (i .at) ∙ sym (advances-plus S made (budget - made) start) ∙ ap (λ (n : ℕ). advancesOf S n start) y)
       (let z : madeBy S (budget - made) s ≡ 0 = rest-made S (budget - made) s p in omega (arith, i .rest, z))
 
-  module _ (h : made < budget) {b : Bool} (f : b ≡ isRunning (s .phase)) (g : b ≡ true) (c : s .advances ≤ 18446744073709551615) {k : ℕ} (l : k ≡ budget - made) {u : Search} {m : ℕ} (e : advances u m ≡ queryRun S k s) where
+  module _ (h : made < budget) {b : Bool} (f : b ≡ isRunning (s .phase)) (g : b ≡ true) (c : s .advances ≤ 18446744073709551615) {k : ℕ} (l : k ≡ budget - made) {u : Search} {m : ℕ} (e : afterRun u m ≡ queryRun S k s) where
     running : isRunning (s .phase) ≡ true
     running = sym f ∙ g
 
     many-made : m ≡ stepsOf S k s .made
-    many-made = ap (λ (x : Advances). x .made) e
+    many-made = ap (λ (x : AfterRun). x .made) e
 
     pub made-more : (made < made + m) × (made + m ≤ budget)
     made-more =
-        let a = made-some S (workQuery (s .work)) k (placesOf (s .trail)) (s .blame) (omega arith) in
-        let d = made-le S (workQuery (s .work)) k (placesOf (s .trail)) (s .blame) in
+        let a = made-some S (workQuery (s .work)) k (s .trail) (s .blame) (omega arith) in
+        let d = made-le S (workQuery (s .work)) k (s .trail) (s .blame) in
         (omega (arith, a, many-made), omega (arith, d, many-made))
 
     pub running-next : Running S budget start u (made + m)
@@ -219,7 +220,7 @@ module _ {S : Source} {budget : ℕ} {start s : Search} {made : ℕ} (i : Runnin
     }
       where
         there : u ≡ advancesOf S m s
-        there = ap (λ (x : Advances). x .search) e ∙ steps-advance S k s running c ∙ ap (λ (n : ℕ). advancesOf S n s) (sym many-made)
+        there = ap (λ (x : AfterRun). x .search) e ∙ steps-advance S k s running c ∙ ap (λ (n : ℕ). advancesOf S n s) (sym many-made)
 
         last : made + (m + madeBy S (k - m) (advancesOf S m s)) ≡ made + m + madeBy S (budget - (made + m)) u
         last =
@@ -227,11 +228,11 @@ module _ {S : Source} {budget : ℕ} {start s : Search} {made : ℕ} (i : Runnin
             ap (λ (n : ℕ). made + (m + madeBy S n (advancesOf S m s))) y ∙ ap (λ (x : Search). made + (m + madeBy S (budget - (made + m)) x)) (sym there) ∙ omega arith
 
 -- one step of a query is one advance
-pub one-advance : (S : Source) (s : Search) {b : Bool} → b ≡ isRunning (s .phase) → b ≡ true → s .advances ≤ 18446744073709551615 → {u : Search} {m : ℕ} → advances u m ≡ queryRun S 1 s → u ≡ advanceOf S s
+pub one-advance : (S : Source) (s : Search) {b : Bool} → b ≡ isRunning (s .phase) → b ≡ true → s .advances ≤ 18446744073709551615 → {u : Search} {m : ℕ} → afterRun u m ≡ queryRun S 1 s → u ≡ advanceOf S s
 unfolding advancesOf
 one-advance S s f g c e =
-    let m : queryRun S 1 s .made ≡ 1 = omega (arith, made-some S (workQuery (s .work)) 1 (placesOf (s .trail)) (s .blame) (omega arith), made-le S (workQuery (s .work)) 1 (placesOf (s .trail)) (s .blame)) in
-    ap (λ (x : Advances). x .search) e ∙ steps-advance S 1 s (sym f ∙ g) c ∙ ap (λ (n : ℕ). advancesOf S n s) m
+    let m : queryRun S 1 s .made ≡ 1 = omega (arith, made-some S (workQuery (s .work)) 1 (s .trail) (s .blame) (omega arith), made-le S (workQuery (s .work)) 1 (s .trail) (s .blame)) in
+    ap (λ (x : AfterRun). x .search) e ∙ steps-advance S 1 s (sym f ∙ g) c ∙ ap (λ (n : ℕ). advancesOf S n s) m
 
 pub no-advance : (S : Source) (s : Search) {b : Bool} → b ≡ isRunning (s .phase) → b ≡ false → s ≡ advanceOf S s
 no-advance S s f g = sym (rest-advance S s (sym f ∙ g))

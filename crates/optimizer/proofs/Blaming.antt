@@ -12,25 +12,25 @@ use borrow.Author.Tests.{eq-eqb, ne-eqb}
 use Rattle.asp.specs.Sets.{pick}
 use Rattle.asp.specs.Stable.{member}
 use Rattle.optimizer.specs.declared.state.Blame.{Blame}
-use Rattle.optimizer.specs.Turn.{blame, blamedOf, blameEntry, blamePlace, flagged}
+use Rattle.optimizer.specs.Turn.{blameTables, blamedOf, blameEntry, blamePlace, flagged}
 
 -- ---- the soft literal of an entry
 
 module _ (ps : List ℕ) (i : ℕ) (fs core : List ℕ) (from : ℕ) where
-  pub entry-old : getD fs i 0 ≡ 1 → blame fs core from ≡ blameEntry ps i (blame fs core from)
+  pub entry-old : getD fs i 0 ≡ 1 → blameTables fs core from ≡ blameEntry ps i (blameTables fs core from)
   entry-old e = rw (eq-eqb (getD fs i 0) 1 e)
 
-  pub entry-new : (getD fs i 0 ≡ 1 → ⊥) → {q x : ℕ} → q ≡ getD ps i 0 → x ≡ q → {k : ℕ} → k ≡ from - 1 → {c : List ℕ} → c ≡ set core (from - 1) x → blame (set fs i 1) c k ≡ blameEntry ps i (blame fs core from)
+  pub entry-new : (getD fs i 0 ≡ 1 → ⊥) → {q x : ℕ} → q ≡ getD ps i 0 → x ≡ q → {k : ℕ} → k ≡ from - 1 → {c : List ℕ} → c ≡ set core (from - 1) x → blameTables (set fs i 1) c k ≡ blameEntry ps i (blameTables fs core from)
   entry-new f eq ex ek ec = rw (ne-eqb (getD fs i 0) 1 f, ek, ec, ex, eq)
 
 -- ---- any soft literal
 
 module _ (ps : List ℕ) (p : ℕ) (fs core : List ℕ) (from : ℕ) where
-  pub place-old : {b : Bool} → b ≡ member p (drop from core) → b ≡ true → blame fs core from ≡ blamePlace ps p (blame fs core from)
+  pub place-old : {b : Bool} → b ≡ member p (drop from core) → b ≡ true → blameTables fs core from ≡ blamePlace ps p (blameTables fs core from)
   place-old e q = rw (← e, q)
 
   pub place-new : {b : Bool} → b ≡ member p (drop from core) → b ≡ false → {gs : List ℕ} → gs ≡ flagged p 0 ps fs → {k : ℕ} → k ≡ from - 1 → {x : ℕ} → x ≡ p
-      → {c : List ℕ} → c ≡ set core (from - 1) x → blame gs c k ≡ blamePlace ps p (blame fs core from)
+      → {c : List ℕ} → c ≡ set core (from - 1) x → blameTables gs c k ≡ blamePlace ps p (blameTables fs core from)
   place-new e q eg ek ex ec = rw (← e, q, eg, ek, ec, ex)
 
 pub place-room : (from : ℕ) (core : List ℕ) (p : ℕ) {b : Bool} → (member p (drop from core) ≡ false → 1 ≤ from) → b ≡ member p (drop from core) → b ≡ false → 1 ≤ from

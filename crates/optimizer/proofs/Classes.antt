@@ -12,10 +12,9 @@ use lib.ListN.{length, getD, take, length-map, List·getD-map}
 use mir.Facts.{and-yes}
 use borrow.Author.Tests.{eq-eqb, eqb-true}
 use Rattle.asp.specs.Sets.{Set, In, Only, pick}
-use Rattle.asp.specs.Program.{Entry, All, LiteralIn}
+use Rattle.asp.specs.Program.{All, LiteralIn}
 use Rattle.asp.specs.Stable.{Stable, isStable, holds, keep}
 use Rattle.asp.specs.Cost.{cost}
-use Rattle.asp.specs.Tables.{span}
 use Rattle.asp.proofs.Signed.{abs-neg}
 use Rattle.asp.proofs.Literals.{holds-complement}
 use Rattle.asp.proofs.Stability.{stable-only, stable-yes, yes-stable}
@@ -23,52 +22,25 @@ use Rattle.search.proofs.Unbroken.{NoneBroken, stable-unbroken}
 use Rattle.cores.specs.Sums.{Out, Distinct, Holds}
 use Rattle.cores.specs.Soft.{Kind, entry, derived, kindAt, violated, judged}
 use Rattle.cores.specs.Level.{Level, assumedFrom}
-use Rattle.cores.specs.Judging.{violatedIn}
-use Rattle.cores.specs.Tables.{noSoft, kindOf, levelOf, FormedTables}
-use Rattle.cores.specs.Tables as tables
+use Rattle.cores.specs.Judging.{violatedAt}
+use Rattle.cores.specs.Tables.{SoundTables, noSoft, kindOf, levelOf, FormedTables}
 use Rattle.cores.specs.declared.soft.Soft.{Soft}
 use Rattle.cores.specs.declared.level.LevelTables.{LevelTables}
 use Rattle.cores.proofs.Links.{rests-count}
 use Rattle.cores.proofs.Strata.{assumed-length, assumed-distinct, assumed-heavy, every-assumed}
 use Rattle.cores.proofs.Unpacked.{judging-formed, judging-level}
-use Rattle.optimizer.specs.declared.state.Work.{Work}
-use Rattle.optimum.specs.Optimize as abstract
 use Rattle.optimizer.specs.Source.{Levels, Source, many, levelAt, levelsIn, rulesIn, FormedSource}
-use Rattle.optimizer.specs.Turn.{Query, queryOf, judgingOf, assumedIn, entryPlaces, wishedIn, settledFrom, inClass}
-use Rattle.optimizer.specs.Finish.{workQuery, freshWork}
+use Rattle.optimizer.specs.Turn.{QueryTables, queryOf, judgingOf, assumedIn, entryPlaces, wishedIn, settledFrom, inClass}
+use Rattle.optimizer.specs.State.{freshWork}
+use Rattle.optimizer.specs.Advance.{workQuery}
 use Rattle.optimizer.specs.Ready.{ReadyQuery}
 use Rattle.optimizer.specs.Facts.{Model}
+use Rattle.optimizer.specs.Meaning.{pastAt, settledAt}
 use Rattle.optimum.proofs.Floor.{Costs, Base}
 use Rattle.optimum.proofs.Invariant.{Given, Among, firstQuery, levelQuery}
 use Rattle.optimizer.proofs.Fronts.{keep-length}
 use Rattle.optimizer.proofs.Turning.{all-at}
 use Rattle.optimizer.proofs.Verdicts.{Answers, nameOf}
-
--- ---- the levels before place j and their settled costs, newest first
-
-abbrev pub pastAt : Levels → ℕ → List (List Entry)
-pastAt L zero = []
-pastAt L (suc j) = levelAt L j ∷ pastAt L j
-
-abbrev pub settledAt : List ℕ → ℕ → List ℕ
-settledAt lowers zero = []
-settledAt lowers (suc j) = getD lowers j 0 ∷ settledAt lowers j
-
--- the levels from place j on
-abbrev pub laterAt : Levels → ℕ → List (List Entry)
-laterAt L j = span (levelAt L) j (many L - j)
-
--- what the work means
-abbrev pub workOf : Levels → Work → abstract.Work
-workOf L w = record {
-  past = pastAt L (w .level);
-  settled = settledAt (w .lowers) (w .level);
-  level = levelAt L (w .level);
-  later = laterAt L (w .level + 1);
-  tables = levelOf (w .tables);
-  stratum = w .stratum;
-  best = λ a. eqb (getD (w .best) a 0) 1;
-}
 
 abbrev pub given : Source → Given
 given S = record { n = S .n; Model = Model S; levels = levelsIn (S .levels) }
@@ -201,11 +173,11 @@ all-over P Q f (x ∷ xs) a = (f x (a .0), all-over P Q f xs (a .1))
 
 -- ---- the query of a level's tables
 
-module _ (n : ℕ) (t : LevelTables) (s : ℕ) (ok : tables.Sound t) (k : All (KindIn n) (levelOf t .kinds)) where
+module _ (n : ℕ) (t : LevelTables) (s : ℕ) (ok : SoundTables t) (k : All (KindIn n) (levelOf t .kinds)) where
   abbrev softsHere : List Soft
   softsHere = take (t .count) (t .softs)
 
-  entries-are : All (λ p. Holds s (levelOf t .rests) p × (eqb (getD (judgingOf t .cores) p 0) 0 ≡ true)) (entryPlaces t s)
+  pub entries-are : All (λ p. Holds s (levelOf t .rests) p × (eqb (getD (judgingOf t .cores) p 0) 0 ≡ true)) (entryPlaces t s)
   entries-are = keep-all (Holds s (levelOf t .rests)) (λ p. eqb (getD (judgingOf t .cores) p 0) 0) (assumedIn t s) (assumed-heavy s (levelOf t .rests))
 
   entry-is : (i : ℕ) → i < length (entryPlaces t s) → Holds s (levelOf t .rests) (getD (entryPlaces t s) i 0) × (eqb (getD (judgingOf t .cores) (getD (entryPlaces t s) i 0) 0) 0 ≡ true)
@@ -221,7 +193,7 @@ module _ (n : ℕ) (t : LevelTables) (s : ℕ) (ok : tables.Sound t) (k : All (K
   literals-long = length-map softsHere (λ (r : Soft). r .literal) ∙ sym (length-map softsHere (λ (r : Soft). r .weight))
 
   -- the soft literal of an entry, by its place
-  kind-of : (p : ℕ) → eqb (getD (judgingOf t .cores) p 0) 0 ≡ true → kindAt (levelOf t .kinds) p ≡ entry (getD (judgingOf t .literals) p (pos 0))
+  pub kind-of : (p : ℕ) → eqb (getD (judgingOf t .cores) p 0) 0 ≡ true → kindAt (levelOf t .kinds) p ≡ entry (getD (judgingOf t .literals) p (pos 0))
   kind-of p e =
       let c : getD (judgingOf t .cores) p 0 ≡ getD softsHere p noSoft .core = List·getD-map (λ (r : Soft). r .core) softsHere p noSoft in
       let l : getD (judgingOf t .literals) p (pos 0) ≡ getD softsHere p noSoft .literal = List·getD-map (λ (r : Soft). r .literal) softsHere p noSoft in
@@ -260,7 +232,7 @@ module _ (n : ℕ) (t : LevelTables) (s : ℕ) (ok : tables.Sound t) (k : All (K
   below m h = rw literals-long (h .0)
 
 -- THE QUERY OF A LEVEL CAN BE ASKED
-module _ (S : Source) (f : FormedSource S) (level : ℕ) (lowers : List ℕ) (t : LevelTables) (s : ℕ) (h : level ≤ many (S .levels)) (l : length lowers ≡ 8) (ok : tables.Sound t)
+module _ (S : Source) (f : FormedSource S) (level : ℕ) (lowers : List ℕ) (t : LevelTables) (s : ℕ) (h : level ≤ many (S .levels)) (l : length lowers ≡ 8) (ok : SoundTables t)
     (k : All (KindIn (S .n)) (levelOf t .kinds)) where
   pub level-ready : ReadyQuery S (queryOf level lowers t s)
   unfolding queryOf
@@ -290,7 +262,7 @@ module _ (S : Source) (f : FormedSource S) (level : ℕ) (lowers : List ℕ) (t 
     entries = entry-heavy (S .n) t s ok k;
     wishes = wish-holds (S .n) t s ok k;
     each = assumed-heavy s (levelOf t .rests);
-    every = λ M a m h. sym (judging-level t (ok .formed) M m) ∙ every-assumed s (λ p. violatedIn (judgingOf t) M p ≡ false) (levelOf t .rests) a m h;
+    every = λ M a m h. sym (judging-level t (ok .formed) M m) ∙ every-assumed s (λ p. violatedAt (judgingOf t) M p ≡ false) (levelOf t .rests) a m h;
     unmet = λ M m h v w. true≢false (sym v ∙ judging-level t (ok .formed) M m ∙ w);
   }
 

@@ -28,7 +28,8 @@ use Rattle.optimizer.specs.declared.state.Phase.{Phase}
 use Rattle.optimizer.specs.declared.state.Phase.the-variants.{First, Level, Optimum, Incoherent, Full}
 use Rattle.optimizer.specs.declared.state.Turn.{Turn}
 use Rattle.optimizer.specs.declared.state.Turn.the-variants.{Going, Without, Model}
-use Rattle.optimizer.specs.Finish.{nextFrom, work, Placed, placed, begunAt, openAt, openFrom, settleOf, costsOf, withBest, betterOf, fallen, withTables, triedWork, finishFirst, finishLevel, finishOf}
+use Rattle.optimizer.specs.State.{work}
+use Rattle.optimizer.specs.Finish.{nextFrom, Placed, placed, begunAt, openAt, openFrom, settleOf, costsOf, withBest, betterOf, fallen, withTables, triedWork, finishFirst, finishLevel, finishOf}
 
 -- ---- the next level that is not settled at 0
 

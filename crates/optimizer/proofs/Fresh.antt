@@ -6,7 +6,7 @@ use native.Mathlib.Omega.{arith}
 use lib.ListN.{length, replicate, drop, length-replicate}
 use Rattle.asp.specs.Program.{All}
 use Rattle.asp.specs.Stable.{keep}
-use Rattle.search.specs.Places.{freshPlaces, Sound}
+use Rattle.search.specs.Places.{freshPlaces, SoundTrail}
 use Rattle.search.proofs.Steps.{fresh-sound}
 use Rattle.cores.specs.Sums.{Distinct}
 use Rattle.cores.specs.Level.{assumedFrom}
@@ -16,7 +16,8 @@ use Rattle.cores.proofs.Unpacked.{judging-formed}
 use Rattle.optimizer.specs.declared.state.Phase.the-variants.{First, Level}
 use Rattle.optimizer.specs.Source.{Source, FormedSource}
 use Rattle.optimizer.specs.Turn.{queryOf}
-use Rattle.optimizer.specs.Finish.{workQuery, freshWork, freshBlame, freshTrail, freshSearch, placesOf, advancesOf}
+use Rattle.optimizer.specs.State.{freshWork, freshBlame, freshSearch}
+use Rattle.optimizer.specs.Advance.{workQuery, advancesOf}
 use Rattle.optimizer.specs.Ready.{softs, ReadyQuery, GoodBlame}
 use Rattle.optimizer.specs.Run.{ReadyRun}
 
@@ -55,8 +56,7 @@ module _ (S : Source) (f : FormedSource S) where
     flags = λ i h. absurd (omega arith);
   }
 
-  pub fresh-trail : Sound (S .n) (placesOf freshTrail)
-  unfolding freshPlaces
+  pub fresh-trail : SoundTrail (S .n) freshPlaces
   fresh-trail = fresh-sound (S .n)
 
   -- A FRESH STATE CAN BE ADVANCED

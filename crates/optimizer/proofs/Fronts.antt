@@ -11,13 +11,13 @@ use lib.Seq.{sets, length-sets}
 use Rattle.cores.specs.Level.{assumedFrom}
 use Rattle.cores.specs.Judging.{Judging, judging}
 use Rattle.asp.specs.Stable.{keep}
-use Rattle.cores.specs.Columns.{Columns, Listed, listed, assumedOf, entriesAmong, Pairs, pairs, Paired, paired, entriesOf}
+use Rattle.cores.specs.Columns.{Columns, Listed, listedPlaces, assumedOf, entriesAmong, Pairs, pairs, Paired, paired, entryColumns}
 use Rattle.cores.proofs.Strata.{assumed-length}
 use Rattle.cores.specs.Tables.{Filled}
 use Rattle.cores.specs.declared.level.LevelTables.{LevelTables}
 use Rattle.cores.proofs.Unpacked.{cutJudging, cut-is}
 use Rattle.cores.proofs.Kept.{assumed-front, entries-front, wishes-front}
-use Rattle.optimizer.specs.Turn.{Query, query, queryBy, queryOf}
+use Rattle.optimizer.specs.Turn.{QueryTables, queryTables, queryBy, queryOf}
 
 pub keep-length : {A : Type 0} (f : A → Bool) (xs : List A) → length (keep f xs) ≤ length xs
 unfolding keep
@@ -29,7 +29,7 @@ keep-length {A} f (x ∷ xs) = go (f x) (keep-length f xs)
     go false h = omega arith
 
 -- `assumed` of the remaining weights ws at stratum s, into zeros
-module _ (s : ℕ) (ws : List ℕ) {qs : List ℕ} {m : ℕ} (h : length ws ≤ 4096) (e : listed qs m ≡ assumedOf s ws (replicate 4096 0)) where
+module _ (s : ℕ) (ws : List ℕ) {qs : List ℕ} {m : ℕ} (h : length ws ≤ 4096) (e : listedPlaces qs m ≡ assumedOf s ws (replicate 4096 0)) where
   few : length (assumedFrom s 0 ws) ≤ 4096
   few = omega (arith, assumed-length s 0 ws, h)
 
@@ -44,7 +44,7 @@ module _ (s : ℕ) (ws : List ℕ) {qs : List ℕ} {m : ℕ} (h : length ws ≤ 
       omega (arith, few, ap (λ (l : Listed). l .count) e, ap (λ (l : Listed). length (l .places)) e ∙ length-sets (replicate 4096 0) 0 (assumedFrom s 0 ws) ∙ length-replicate {A = ℕ} 4096 0)
 
   -- `entries` of what it left, into zeros
-  module _ (ls : List ℤ) (js : List ℕ) {ps : List ℕ} {os : List ℤ} {k : ℕ} (e₂ : paired (pairs ps os) k ≡ entriesOf ls (entriesAmong js (take m qs)) (pairs (replicate 4096 0) (replicate 4096 (pos 0)))) where
+  module _ (ls : List ℤ) (js : List ℕ) {ps : List ℕ} {os : List ℤ} {k : ℕ} (e₂ : paired (pairs ps os) k ≡ entryColumns ls (entriesAmong js (take m qs)) (pairs (replicate 4096 0) (replicate 4096 (pos 0)))) where
     abbrev zeros : Pairs
     zeros = pairs (replicate 4096 0) (replicate 4096 (pos 0))
 
@@ -67,10 +67,10 @@ module _ (s : ℕ) (ws : List ℕ) {qs : List ℕ} {m : ℕ} (h : length ws ≤ 
 
     -- the columns' query is the one that these fronts give
     pub fronts-query : (level : ℕ) (lowers is es ms : List ℕ)
-        → query level lowers (take k os) (take k ps) (take m qs) (judging ls js is es ms) ≡ queryBy level lowers (judging ls js is es ms) ws s
+        → queryTables level lowers (take k os) (take k ps) (take m qs) (judging ls js is es ms) ≡ queryBy level lowers (judging ls js is es ms) ws s
     fronts-query level lowers is es ms =
-        ap₂ (λ (a : List ℤ) (b : List ℕ). query level lowers a b (take m qs) (judging ls js is es ms)) wished-front spots-front
-        ∙ ap (λ (a : List ℕ). query level lowers (map (λ (p : ℕ). negℤ (getD ls p (pos 0))) (entriesAmong js a)) (entriesAmong js a) a (judging ls js is es ms)) assumed-is
+        ap₂ (λ (a : List ℤ) (b : List ℕ). queryTables level lowers a b (take m qs) (judging ls js is es ms)) wished-front spots-front
+        ∙ ap (λ (a : List ℕ). queryTables level lowers (map (λ (p : ℕ). negℤ (getD ls p (pos 0))) (entriesAmong js a)) (entriesAmong js a) a (judging ls js is es ms)) assumed-is
 
 -- the query of the level's tables is that of its columns
 pub columns-query : (t : LevelTables) (c : Columns) → Filled t c → (level s : ℕ) (lowers : List ℕ) → queryBy level lowers (cutJudging t c) (take (t .count) (c .weights)) s ≡ queryOf level lowers t s

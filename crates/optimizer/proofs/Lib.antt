@@ -12,3 +12,7 @@ pub mod Meanings
 pub mod Validity
 pub mod Patient
 pub mod Reached
+pub mod Exact
+pub mod Tests
+pub mod Paths
+pub mod Alike

@@ -17,14 +17,11 @@ use Rattle.asp.specs.Program.{Entry, All, LiteralIn}
 use Rattle.asp.specs.Cost.{cost, costsAt, cheaper, level}
 use Rattle.asp.specs.Tables.{span, literalsAt}
 use Rattle.asp.proofs.Spans.{length-span, map-span}
-use Rattle.search.specs.Trail.{Trail}
 use Rattle.search.specs.Machine as machine
-use Rattle.search.specs.Places.{trailOf}
 use Rattle.cores.specs.Soft.{Kind, entry, derived}
 use Rattle.cores.specs.Level as lev
-use Rattle.cores.specs.Level.{weighty, opened, greatest, under, recorded, derivedFrom, fewer, fits, room, FormedEntries}
-use Rattle.cores.specs.Tables.{levelOf, openedTables, heldIn, recordedTables, Room, Tried, tried, triedTables}
-use Rattle.cores.specs.Tables as tables
+use Rattle.cores.specs.Level.{weighty, opened, greatest, under, recorded, derivedFrom, fewer, coreFits, room, FormedEntries}
+use Rattle.cores.specs.Tables.{SoundTables, levelOf, openedTables, heldIn, recordedTables, Room, Tried, tried, triedTables}
 use Rattle.cores.specs.declared.level.LevelTables.{LevelTables}
 use Rattle.cores.proofs.Spans.{getD-span}
 use Rattle.cores.proofs.Kept.{level-formed, opened-means, opened-sound, recorded-means, recorded-sound, core-counted, level-all, weighty-all}
@@ -33,27 +30,16 @@ use Rattle.cores.proofs.Loops.{try-room}
 use Rattle.optimizer.specs.declared.state.Phase.{Phase}
 use Rattle.optimizer.specs.declared.state.Phase.the-variants.{First, Level, Optimum, Incoherent, Full}
 use Rattle.optimizer.specs.declared.state.Work.{Work}
-use Rattle.optimizer.specs.declared.state.Search.{Search}
-use Rattle.optimum.specs.Optimize.{State, first, working, optimum, incoherent, full, costsOn, openNext, settle, better, withCore, withModel, noModel, begun}
+use Rattle.optimum.specs.Optimize.{State, working, full, costsOn, openNext, settle, better, withCore, withModel, noModel, begun}
 use Rattle.optimum.specs.Optimize as abstract
 use Rattle.optimizer.specs.Source.{Levels, Source, many, levelAt, levelsIn, entriesIn, FormedLevels, FormedSource}
-use Rattle.optimizer.specs.Turn.{blamedOf}
-use Rattle.optimizer.specs.Finish.{work, Placed, placed, nextFrom, begunAt, openAt, openFrom, settleOf, costsOf, withBest, betterOf, fallen, withTables, triedWork, placesOf, freshWork}
-use Rattle.optimizer.proofs.Classes.{pastAt, settledAt, laterAt, workOf, KindIn}
+use Rattle.optimizer.specs.State.{work, freshWork}
+use Rattle.optimizer.specs.Finish.{Placed, placed, nextFrom, begunAt, openAt, openFrom, settleOf, costsOf, withBest, betterOf, fallen, withTables, triedWork}
+use Rattle.optimizer.specs.Meaning.{pastAt, settledAt, laterAt, workOf, meantBy}
+use Rattle.optimizer.proofs.Classes.{KindIn}
 use Rattle.optimizer.proofs.Finishing.{formed-in}
 
--- ---- what a state means
-
-abbrev pub meantBy : Levels → ℕ → Phase → Trail → List ℕ → Work → State
-meantBy L c First t ms w = first c t
-meantBy L c Level t ms w = working c (workOf L w) t ms
-meantBy L c Optimum t ms w = optimum c (pastAt L (w .level)) (settledAt (w .lowers) (w .level)) (setOf (w .best))
-meantBy L c Incoherent t ms w = incoherent c
-meantBy L c Full t ms w = full c (workOf L w)
-
--- c advances were made
-abbrev pub meant : Levels → ℕ → Search → State
-meant L c s = meantBy L c (s .phase) (trailOf (placesOf (s .trail))) (blamedOf (s .blame)) (s .work)
+-- ---- what the end of a query means
 
 abbrev pub meantPlaced : Levels → ℕ → Placed → State
 meantPlaced L c x = meantBy L c (x .phase) [] [] (x .work)
@@ -62,7 +48,7 @@ meantPlaced L c x = meantBy L c (x .phase) [] [] (x .work)
 
 pub record OnLevel (S : Source) (w : Work) : Type 0 where
   pub level : w .level < many (S .levels)
-  pub sound : tables.Sound (w .tables)
+  pub sound : SoundTables (w .tables)
   pub kinds : All (KindIn (S .n)) (levelOf (w .tables) .kinds)
   pub lowers-len : length (w .lowers) ≡ 8
   pub lower-is : getD (w .lowers) (w .level) 0 ≡ w .tables .lower
@@ -73,7 +59,7 @@ pub record AtEnd (S : Source) (w : Work) : Type 0 where
   pub level : w .level ≡ many (S .levels)
   pub lowers-len : length (w .lowers) ≡ 8
   pub uppers : w .uppers ≡ costsOf (S .levels) (w .best)
-  pub sound : tables.Sound (w .tables)
+  pub sound : SoundTables (w .tables)
   pub kinds : All (KindIn (S .n)) (levelOf (w .tables) .kinds)
 
 abbrev pub InOrder : Source → Phase → Work → Type 0
@@ -173,7 +159,7 @@ module _ (S : Source) (f : FormedSource S) where
     pub order : Ordered S x
 
   open-at : (c : ℕ) (w : Work) (j k : ℕ) → j + k ≡ many L → length (w .lowers) ≡ 8 → ((i : ℕ) → j ≤ i → getD (w .lowers) i 0 ≡ 0) → w .uppers ≡ costsOf L (w .best)
-      → tables.Sound (w .tables) → All (KindIn (S .n)) (levelOf (w .tables) .kinds)
+      → SoundTables (w .tables) → All (KindIn (S .n)) (levelOf (w .tables) .kinds)
       → Opened c (openAt L w (nextFrom (w .uppers) j k)) (openNext c (pastAt L j) (settledAt (w .lowers) j) (span (levelAt L) j k) (setOf (w .best)))
   unfolding nextFrom span
   open-at c w j zero e l z u so ki =
@@ -196,7 +182,7 @@ module _ (S : Source) (f : FormedSource S) where
           (record { means = begun-means c w j k (omega arith); order = begun-order w j (omega arith) l z u })
 
   pub open-from : (c : ℕ) (w : Work) (j : ℕ) → j ≤ many L → length (w .lowers) ≡ 8 → ((i : ℕ) → j ≤ i → getD (w .lowers) i 0 ≡ 0) → w .uppers ≡ costsOf L (w .best)
-      → tables.Sound (w .tables) → All (KindIn (S .n)) (levelOf (w .tables) .kinds)
+      → SoundTables (w .tables) → All (KindIn (S .n)) (levelOf (w .tables) .kinds)
       → Opened c (openFrom L w j) (openNext c (pastAt L j) (settledAt (w .lowers) j) (laterAt L j) (setOf (w .best)))
   unfolding openFrom
   open-from c w j h l z u so ki = open-at c w j (many L - j) (omega arith) l z u so ki
@@ -281,13 +267,13 @@ module _ (S : Source) (f : FormedSource S) where
     abbrev recordedWork : Work
     recordedWork = withTables w (recordedTables t s ms)
 
-    roomy : fits (t .count) (heldIn t) (length ms) ≡ true → Room t (length ms)
+    roomy : coreFits (t .count) (heldIn t) (length ms) ≡ true → Room t (length ms)
     roomy q = try-room t s ms (core-counted t (o .sound) s ms some few) refl refl q
 
-    recorded-is : fits (t .count) (heldIn t) (length ms) ≡ true → levelOf (recordedTables t s ms) ≡ recorded (levelOf t) s ms
+    recorded-is : coreFits (t .count) (heldIn t) (length ms) ≡ true → levelOf (recordedTables t s ms) ≡ recorded (levelOf t) s ms
     recorded-is q = recorded-means t (o .sound) s ms (roomy q) inside
 
-    recorded-order : fits (t .count) (heldIn t) (length ms) ≡ true → OnLevel S recordedWork
+    recorded-order : coreFits (t .count) (heldIn t) (length ms) ≡ true → OnLevel S recordedWork
     recorded-order q = record {
       level = o .level;
       sound = recorded-sound t (o .sound) s ms (roomy q) inside;
@@ -303,15 +289,15 @@ module _ (S : Source) (f : FormedSource S) where
         more : (j : ℕ) → w .level < j → j ≡ w .level → ⊥
         more j h e = omega arith
 
-    recorded-work : fits (t .count) (heldIn t) (length ms) ≡ true → workOf L recordedWork ≡ withCore (workOf L w) ms
+    recorded-work : coreFits (t .count) (heldIn t) (length ms) ≡ true → workOf L recordedWork ≡ withCore (workOf L w) ms
     recorded-work q =
         ap₂ (λ (x : lev.Level) (y : List ℕ). record { past = pastAt L (w .level); settled = y; level = levelAt L (w .level); later = laterAt L (w .level + 1); tables = x; stratum = s; best = setOf (w .best) })
         (recorded-is q) (settled-set (w .lowers) (w .level) (t .lower + s) (w .level) (omega arith))
 
     pub core-means : (c : ℕ) → Opened c (triedWork L w (triedTables t s ms)) (noModel c (workOf L w) ms)
-    core-means c = go (fits (t .count) (heldIn t) (length ms)) (room (levelOf t) ms) refl (fits-room t (o .sound .formed) ms)
+    core-means c = go (coreFits (t .count) (heldIn t) (length ms)) (room (levelOf t) ms) refl (fits-room t (o .sound .formed) ms)
       where
-        go : (a b : Bool) → fits (t .count) (heldIn t) (length ms) ≡ a → fits (t .count) (heldIn t) (length ms) ≡ b
+        go : (a b : Bool) → coreFits (t .count) (heldIn t) (length ms) ≡ a → coreFits (t .count) (heldIn t) (length ms) ≡ b
             → Opened c (triedWork L w (pick a (tried false (recordedTables t s ms)) (tried true t))) (pick b (settle c (withCore (workOf L w) ms)) (full c (workOf L w)))
         go true true q e = subst (λ (x : abstract.Work). Opened c (settleOf L recordedWork) (settle c x)) (recorded-work q) (settle-means c recordedWork (recorded-order q))
         go false false q e = record { means = refl; order = o }

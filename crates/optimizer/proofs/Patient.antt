@@ -7,7 +7,8 @@ use lib.Dec.{eqb}
 use lib.IntN.{ℤ, pos, negℤ}
 use lib.ListN.{getD}
 use Rattle.asp.specs.Sets.{pick}
-use Rattle.search.specs.Places.{Places, putOf, pushOf, dropOf, backFrom, backOf}
+use Rattle.search.specs.declared.trail.Places.{Places}
+use Rattle.search.specs.Places.{putOf, pushOf, dropOf, backFrom, backOf}
 use Rattle.search.specs.Scan.{scanOf}
 use Rattle.search.specs.Step.{testOf}
 use Rattle.search.specs.declared.step.Tested.{Tested}
@@ -15,7 +16,6 @@ use Rattle.search.specs.declared.step.Tested.the-variants.{RuleBroken, Full, So
 use Rattle.search.proofs.StepLaws.{Told, told}
 use Rattle.optimizer.specs.declared.state.Phase.{Phase}
 use Rattle.optimizer.specs.declared.state.Phase.the-variants.{First, Level, Optimum, Incoherent, Full as FullPhase}
-use Rattle.optimizer.specs.declared.state.Trail.{Trail}
 use Rattle.optimizer.specs.declared.state.Blame.{Blame}
 use Rattle.optimizer.specs.declared.state.Work.{Work}
 use Rattle.optimizer.specs.declared.state.Search.{Search}
@@ -24,8 +24,10 @@ use Rattle.optimizer.specs.declared.state.Turn.the-variants.{Going, With
 use Rattle.optimizer.specs.declared.state.Judgement.{Judgement}
 use Rattle.optimizer.specs.declared.state.Judgement.the-variants.{Wanted, Dead, Violated}
 use Rattle.optimizer.specs.Source.{Source, ruleTables}
-use Rattle.optimizer.specs.Turn.{Query, blamedOf, blameEntry, blamePlace, judgeFull, Turned, turned, backed, judgedTurn, turnBy, queryTables, turnOf}
-use Rattle.optimizer.specs.Finish.{Placed, search as searchOf, placesOf, freshSearch, ended, finishOf, afterTurns, finishTurn, workQuery, isRunning, bumped, advanceOf, advancesOf, madeBy}
+use Rattle.optimizer.specs.Turn.{QueryTables, blamedOf, blameEntry, blamePlace, judgeFull, Turned, turned, backed, judgedTurn, turnBy, assumedBy, turnOf}
+use Rattle.optimizer.specs.State.{search as searchOf, freshSearch, isRunning}
+use Rattle.optimizer.specs.Finish.{Placed, finishOf}
+use Rattle.optimizer.specs.Advance.{endedQuery, afterTurns, finishTurn, workQuery, bumped, advanceOf, advancesOf, madeBy}
 use Rattle.optimizer.specs.Facts.{hasModel}
 use Rattle.optimizer.proofs.Advancing.{rest-advance, rest-advances}
 
@@ -52,7 +54,7 @@ backed-adds n t b = go (eqb (backOf t .len) 0) (back-len (t .len) t refl)
     go true h = record { one = omega arith; all = λ e. let z : _≡_ {A = ℕ} 0 1 = cc in absurd (omega arith) }
     go false h = record { one = omega arith; all = λ e. let z : _≡_ {A = ℕ} 0 1 = cc in absurd (omega arith) }
 
-judged-adds : (n : ℕ) (q : Query) (t : Places) (b : Blame) (j : Judgement) → n ≤ t .len → Adds n t (judgedTurn q t b j)
+judged-adds : (n : ℕ) (q : QueryTables) (t : Places) (b : Blame) (j : Judgement) → n ≤ t .len → Adds n t (judgedTurn q t b j)
 judged-adds n q t b Wanted h = record { one = omega arith; all = λ e. h }
 judged-adds n q t b Dead h = backed-adds n t b
 judged-adds n q t b (Violated p) h = backed-adds n t (blamePlace (q .places) p b)
@@ -61,11 +63,11 @@ push-adds : (n : ℕ) (t : Places) (b : Blame) (l : ℤ) → Adds n t (turned Go
 unfolding putOf
 push-adds n t b l = record { one = omega arith; all = λ e. let z : _≡_ {A = ℕ} 0 1 = cc in absurd (omega arith) }
 
-turn-adds : (S : Source) (q : Query) (t : Places) (b : Blame) → Adds (S .n) t (turnOf S q t b)
+turn-adds : (S : Source) (q : QueryTables) (t : Places) (b : Blame) → Adds (S .n) t (turnOf S q t b)
 unfolding turnOf
-turn-adds S q t b = go (testOf (ruleTables S) (S .n) (queryTables q b) (t .value) (t .len)) (told (ruleTables S) (S .n) (queryTables q b) (t .value) (t .len))
+turn-adds S q t b = go (testOf (ruleTables S) (S .n) (assumedBy q b) (t .value) (t .len)) (told (ruleTables S) (S .n) (assumedBy q b) (t .value) (t .len))
   where
-    go : (y : Tested) → Told (S .n) (queryTables q b) (t .value) (t .len) (scanOf (ruleTables S) (t .value)) y → Adds (S .n) t (turnBy S q t b y)
+    go : (y : Tested) → Told (S .n) (assumedBy q b) (t .value) (t .len) (scanOf (ruleTables S) (t .value)) y → Adds (S .n) t (turnBy S q t b y)
     go (RuleBroken r) w = backed-adds (S .n) t b
     go Full w = judged-adds (S .n) q t b (judgeFull S q (blamedOf b) (t .value)) (w .1)
     go (SoftViolated i) w = backed-adds (S .n) t (blameEntry (q .places) i b)
@@ -77,7 +79,7 @@ pub record Patient (S : Source) (c : ℕ) (s : Search) : Type 0 where
   pub trail : s .phase ≡ First → s .trail .len ≤ c
   pub model : hasModel (s .phase) ≡ true → S .n < c
 
-ended-patient : (S : Source) (c k : ℕ) (x : Placed) → (hasModel (x .phase) ≡ true → S .n < c) → Patient S c (ended k x)
+ended-patient : (S : Source) (c k : ℕ) (x : Placed) → (hasModel (x .phase) ≡ true → S .n < c) → Patient S c (endedQuery k x)
 ended-patient S c k x h = record { trail = λ e. zero-le; model = h }
 
 first-next : (S : Source) (c k : ℕ) (w : Work) (x : Turned) → x .trail .len ≤ suc c → (x .turn ≡ Model → S .n ≤ c) → Patient S (suc c) (finishTurn S First k w x)
@@ -96,12 +98,12 @@ level-next S c k w x h = go (x .turn)
     go Without = ended-patient S (suc c) k (finishOf (S .levels) Level w (x .trail .value) (blamedOf (x .blame)) Without) (λ e. omega arith)
     go Model = ended-patient S (suc c) k (finishOf (S .levels) Level w (x .trail .value) (blamedOf (x .blame)) Model) (λ e. omega arith)
 
-advance-by : (S : Source) (p : Phase) (c k : ℕ) (t : Trail) (b : Blame) (w : Work) → Patient S c (searchOf p k t b w) → isRunning p ≡ true → Patient S (suc c) (advanceOf S (searchOf p k t b w))
+advance-by : (S : Source) (p : Phase) (c k : ℕ) (t : Places) (b : Blame) (w : Work) → Patient S c (searchOf p k t b w) → isRunning p ≡ true → Patient S (suc c) (advanceOf S (searchOf p k t b w))
 unfolding advanceOf
 advance-by S First c k t b w v r =
-    let a = turn-adds S (workQuery w) (placesOf t) b in
-    first-next S c (bumped k) w (turnOf S (workQuery w) (placesOf t) b) (omega (arith, a .one, v .trail refl)) (λ e. omega (arith, a .all e, v .trail refl))
-advance-by S Level c k t b w v r = level-next S c (bumped k) w (turnOf S (workQuery w) (placesOf t) b) (v .model refl)
+    let a = turn-adds S (workQuery w) (t) b in
+    first-next S c (bumped k) w (turnOf S (workQuery w) (t) b) (omega (arith, a .one, v .trail refl)) (λ e. omega (arith, a .all e, v .trail refl))
+advance-by S Level c k t b w v r = level-next S c (bumped k) w (turnOf S (workQuery w) (t) b) (v .model refl)
 advance-by S Optimum c k t b w v r = let z : _≡_ {A = ℕ} 0 1 = cc in absurd (omega arith)
 advance-by S Incoherent c k t b w v r = let z : _≡_ {A = ℕ} 0 1 = cc in absurd (omega arith)
 advance-by S FullPhase c k t b w v r = let z : _≡_ {A = ℕ} 0 1 = cc in absurd (omega arith)

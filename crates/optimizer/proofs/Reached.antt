@@ -2,6 +2,7 @@
 use mathlib.Core.Path.{_≡_, refl, sym, ap, ap₂, _∙_, subst}
 use mathlib.Core.Bool.{Bool, true, false}
 use mathlib.Core.List.{List, [], _∷_, map}
+use mathlib.Core.Logic.{_≢_}
 use mathlib.Core.Option.{Option, none, some}
 use Prim.Native.Nat.{ℕ, zero, suc, _+_, _-_, _*_, _^_, _≤_, _<_}
 use native.Mathlib.Nat.{zero-add}
@@ -9,36 +10,41 @@ use native.Mathlib.Numerals.{add-one}
 use native.Mathlib.Omega.{arith}
 use lib.Dec.{ltb}
 use lib.ListN.{length, getD, take, replicate, length-replicate, getD-replicate}
+use lib.Seq.{getD-take}
 use Rattle.asp.specs.Sets.{Set, setOf}
 use Rattle.asp.specs.Program.{Entry, All}
 use Rattle.asp.specs.Cost.{cost, weight, NoDearer}
 use Rattle.asp.specs.Tables.{span}
 use Rattle.asp.proofs.Order.{ltb-linear, no-dearer-refl}
-use Rattle.asp.proofs.Spans.{map-span}
-use Rattle.cores.specs.Identity.{violatedWeight}
+use Rattle.asp.proofs.Spans.{length-span, map-span}
+use Rattle.cores.specs.Identity.{violatedWeight, problem}
 use Rattle.cores.specs.Tables.{levelOf}
+use Rattle.cores.proofs.Limits.{lower-bounds}
 use Rattle.cores.proofs.Spans.{span-ext}
 use Rattle.optimizer.specs.declared.state.Phase.{Phase}
 use Rattle.optimizer.specs.declared.state.Phase.the-variants.{First, Level, Optimum, Incoherent, Full}
-use Rattle.optimizer.specs.declared.state.Trail.{Trail}
 use Rattle.optimizer.specs.declared.state.Blame.{Blame}
 use Rattle.optimizer.specs.declared.state.Work.{Work}
 use Rattle.optimizer.specs.declared.state.Search.{Search}
 use Rattle.optimum.specs.Optimize.{onto, zeros, lowers, Running}
 use Rattle.optimum.specs.Optimize as abstract
 use Rattle.optimizer.specs.Source.{Levels, Source, many, levelAt, levelsIn, FormedSource}
-use Rattle.optimizer.specs.Finish.{search as searchOf, placesOf, freshWork, freshSearch, workQuery, finishTurn, isRunning, bumped, advanceOf, advancesOf, madeBy}
+use Rattle.optimizer.specs.State.{search as searchOf, freshWork, freshSearch, isRunning}
+use Rattle.optimizer.specs.Finish.{costsOf}
+use Rattle.optimizer.specs.Advance.{workQuery, finishTurn, bumped, advanceOf, advancesOf, madeBy}
 use Rattle.optimizer.specs.Turn.{blamedOf, Turned, turnOf}
 use Rattle.optimizer.specs.Run.{ReadyRun, Steady, Reached}
-use Rattle.optimizer.specs.Facts.{Model, costsIn, weightIn, hasModel, inWork, lowersIn, uppersIn, bestIn, Facts}
+use Rattle.optimizer.specs.Facts.{Model, costsIn, weightIn, hasModel, isInWork, lowersIn, uppersIn, bestIn, Facts}
+use Rattle.optimizer.specs.Meaning.{pastAt, settledAt, laterAt, workOf, meantBy}
+use Rattle.search.specs.declared.trail.Places.{Places}
 use Rattle.search.specs.Places.{trailOf}
 use Rattle.search.specs.Trail as list
 use Rattle.optimizer.proofs.Verdicts.{seen}
-use Rattle.optimum.proofs.Claims.{OnBest, Falls, work-falls, lowers-le, best-is, optimum-best, none-ends, incoherent-none, few-advances, never-full, identity}
-use Rattle.optimum.proofs.Invariant.{GoodWork, Inv}
+use Rattle.optimum.proofs.Claims.{OnBest, Falls, work-falls, lowers-le, lowers-long, best-is, optimum-is, optimum-best, none-ends, incoherent-none, few-advances, never-full, identity}
+use Rattle.optimum.proofs.Invariant.{Among, GoodWork, Inv}
 use Rattle.optimizer.proofs.Advancing.{advances-plus}
-use Rattle.optimizer.proofs.Classes.{pastAt, settledAt, laterAt, workOf, given, costs-at}
-use Rattle.optimizer.proofs.Meanings.{meantBy, meant, OnLevel, AtEnd, InOrder, costs-are}
+use Rattle.optimizer.proofs.Classes.{given, costs-at, at-costs}
+use Rattle.optimizer.proofs.Meanings.{OnLevel, AtEnd, InOrder, costs-are, cost-at}
 use Rattle.optimizer.proofs.Patient.{Patient, reached-patient}
 use Rattle.optimizer.proofs.Validity.{Valid, level-means, reached-valid, valid-ready}
 
@@ -93,6 +99,12 @@ onto-span l (suc j) k =
     let e : j + suc k ≡ suc j + k = omega arith in
     ap (λ (n : ℕ). onto (settledAt l j) (getD l j 0 ∷ span (λ i. getD l i 0) n k)) (sym (add-one j)) ∙ onto-span l j (suc k) ∙ ap (span (λ i. getD l i 0) 0) e
 
+zero-front : (m : ℕ) (l : List ℕ) (j : ℕ) → getD l j 0 ≡ 0 → getD (take m l) j 0 ≡ 0
+zero-front zero l j e = refl
+zero-front (suc m) [] j e = refl
+zero-front (suc m) (x ∷ l) zero e = e
+zero-front (suc m) (x ∷ l) (suc j) e = zero-front m l j e
+
 zeros-span : (L : Levels) (l : List ℕ) (j k : ℕ) → ((i : ℕ) → j ≤ i → getD l i 0 ≡ 0) → zeros (span (levelAt L) j k) ≡ span (λ i. getD l i 0) j k
 zeros-span L l j k z = map-span (λ (x : List Entry). 0) (levelAt L) j k ∙ span-ext (λ i. 0) (λ i. getD l i 0) j k (λ p a b. sym (z p a))
 
@@ -129,7 +141,7 @@ module _ (S : Source) (f : FormedSource S) where
       front-is (w .lowers) (many L) (omega (arith, o .lowers-len, f .levels .levels-few))
       ∙ ap (span (λ i. getD (w .lowers) i 0) 0) (sym e) ∙ sym (onto-span (w .lowers) (w .level) 0)
 
-  lowers-are : (p : Phase) (c k : ℕ) (t : Trail) (b : Blame) (w : Work) → InOrder S p w → lowersIn S (searchOf p k t b w) ≡ lowers (levelsIn L) (meantBy L c p (trailOf (placesOf t)) (blamedOf b) w)
+  lowers-are : (p : Phase) (c k : ℕ) (t : Places) (b : Blame) (w : Work) → InOrder S p w → lowersIn S (searchOf p k t b w) ≡ lowers (levelsIn L) (meantBy L c p (trailOf (t)) (blamedOf b) w)
   lowers-are First c k t b w o = ap (λ (x : Work). take (many L) (x .lowers)) o ∙ fresh-lowers
   lowers-are Level c k t b w o = work-lowers w o
   lowers-are Optimum c k t b w o = end-lowers w o
@@ -140,7 +152,7 @@ module _ (S : Source) (f : FormedSource S) where
 
   module _ (c : ℕ) (s : Search) (v : Valid S c s) (a : Patient S c s) where
     abbrev state : Phase → abstract.State
-    state p = meantBy L c p (trailOf (placesOf (s .trail))) (blamedOf (s .blame)) (s .work)
+    state p = meantBy L c p (trailOf (s .trail)) (blamedOf (s .blame)) (s .work)
 
     -- by the phase
     stable-by : (p : Phase) → Inv (given S) (state p) → hasModel p ≡ true → Model S (bestIn s)
@@ -171,14 +183,14 @@ module _ (S : Source) (f : FormedSource S) where
     few-by Incoherent i r = let z : _≡_ {A = ℕ} 0 1 = cc in absurd (omega arith)
     few-by Full i r = let z : _≡_ {A = ℕ} 0 1 = cc in absurd (omega arith)
 
-    level-by : (p : Phase) → InOrder S p (s .work) → inWork p ≡ true → s .work .level < many L
+    level-by : (p : Phase) → InOrder S p (s .work) → isInWork p ≡ true → s .work .level < many L
     level-by First o h = let z : _≡_ {A = ℕ} 0 1 = cc in absurd (omega arith)
     level-by Level o h = o .level
     level-by Optimum o h = let z : _≡_ {A = ℕ} 0 1 = cc in absurd (omega arith)
     level-by Incoherent o h = let z : _≡_ {A = ℕ} 0 1 = cc in absurd (omega arith)
     level-by Full o h = o .level
 
-    stratum-by : (p : Phase) → Inv (given S) (state p) → inWork p ≡ true → 1 ≤ s .work .stratum
+    stratum-by : (p : Phase) → Inv (given S) (state p) → isInWork p ≡ true → 1 ≤ s .work .stratum
     stratum-by First i h = let z : _≡_ {A = ℕ} 0 1 = cc in absurd (omega arith)
     stratum-by Level i h = i .positive
     stratum-by Optimum i h = let z : _≡_ {A = ℕ} 0 1 = cc in absurd (omega arith)
@@ -191,7 +203,7 @@ module _ (S : Source) (f : FormedSource S) where
         identity (given S) (workOf L (s .work)) g M m (costs-at L (s .work .lowers) M (s .work .level) h)
         ∙ ap (λ (x : ℕ). x + violatedWeight M (levelOf (s .work .tables))) (sym (o .lower-is))
 
-    identity-by : (p : Phase) → InOrder S p (s .work) → Inv (given S) (state p) → inWork p ≡ true → (M : Set) → Model S M
+    identity-by : (p : Phase) → InOrder S p (s .work) → Inv (given S) (state p) → isInWork p ≡ true → (M : Set) → Model S M
         → ((j : ℕ) → j < s .work .level → cost M (levelAt L j) ≡ getD (s .work .lowers) j 0)
         → cost M (levelAt L (s .work .level)) ≡ getD (s .work .lowers) (s .work .level) 0 + violatedWeight M (levelOf (s .work .tables))
     identity-by First o i h = let z : _≡_ {A = ℕ} 0 1 = cc in absurd (omega arith)
@@ -200,9 +212,57 @@ module _ (S : Source) (f : FormedSource S) where
     identity-by Incoherent o i h = let z : _≡_ {A = ℕ} 0 1 = cc in absurd (omega arith)
     identity-by Full o i h = work-identity o (i .work)
 
+    -- the bounds: on a settled level, on the level in work, on those after it, at the optimum
+    lower-at : (j : ℕ) → j < many L → getD (lowersIn S s) j 0 ≡ getD (s .work .lowers) j 0
+    lower-at j h = getD-take (many L) (s .work .lowers) j 0 h
+
+    upper-at : s .work .uppers ≡ costsOf L (s .work .best) → (j : ℕ) → j < many L → getD (uppersIn S s) j 0 ≡ cost (bestIn s) (levelAt L j)
+    upper-at u j h = getD-take (many L) (s .work .uppers) j 0 h ∙ ap (λ (x : List ℕ). getD x j 0) u ∙ cost-at L (s .work .best) j h
+
+    work-settled : OnLevel S (s .work) → GoodWork (given S) (workOf L (s .work)) → (j : ℕ) → j < s .work .level → getD (lowersIn S s) j 0 ≡ getD (uppersIn S s) j 0
+    work-settled o g j h =
+        let k : j < many L = omega (arith, o .level) in
+        lower-at j k ∙ sym (at-costs L (s .work .lowers) (bestIn s) (s .work .level) (g .base .1) j h) ∙ sym (upper-at (o .uppers) j k)
+
+    settled-by : (p : Phase) → InOrder S p (s .work) → Inv (given S) (state p) → isInWork p ≡ true → (j : ℕ) → j < s .work .level → getD (lowersIn S s) j 0 ≡ getD (uppersIn S s) j 0
+    settled-by First o i h = let z : _≡_ {A = ℕ} 0 1 = cc in absurd (omega arith)
+    settled-by Level o i h = work-settled o (i .work)
+    settled-by Optimum o i h = let z : _≡_ {A = ℕ} 0 1 = cc in absurd (omega arith)
+    settled-by Incoherent o i h = let z : _≡_ {A = ℕ} 0 1 = cc in absurd (omega arith)
+    settled-by Full o i h = work-settled o (i .work)
+
+    level-unsettled : OnLevel S (s .work) → Inv (given S) (state Level) → getD (lowersIn S s) (s .work .level) 0 < getD (uppersIn S s) (s .work .level) 0
+    level-unsettled o i =
+        let b : levelOf (s .work .tables) .lower ≤ cost (bestIn s) (levelAt L (s .work .level)) =
+        lower-bounds (problem (Among (given S) (workOf L (s .work))) (levelAt L (s .work .level))) (levelOf (s .work .tables)) (i .work .good) (bestIn s) (i .work .base) in
+        let n : cost (bestIn s) (levelAt L (s .work .level)) ≢ s .work .tables .lower = i .unsettled in
+        omega (arith, b, n, lower-at (s .work .level) (o .level) ∙ o .lower-is, upper-at (o .uppers) (s .work .level) (o .level))
+
+    later-by : (p : Phase) → InOrder S p (s .work) → isInWork p ≡ true → (j : ℕ) → s .work .level < j → getD (lowersIn S s) j 0 ≡ 0
+    later-by First o h = let z : _≡_ {A = ℕ} 0 1 = cc in absurd (omega arith)
+    later-by Level o h = λ j k. zero-front (many L) (s .work .lowers) j (o .zeros j k)
+    later-by Optimum o h = let z : _≡_ {A = ℕ} 0 1 = cc in absurd (omega arith)
+    later-by Incoherent o h = let z : _≡_ {A = ℕ} 0 1 = cc in absurd (omega arith)
+    later-by Full o h = λ j k. zero-front (many L) (s .work .lowers) j (o .zeros j k)
+
+    start-by : (p : Phase) → InOrder S p (s .work) → hasModel p ≡ false → (j : ℕ) → getD (lowersIn S s) j 0 ≡ 0
+    start-by First o h = λ j. zero-front (many L) (s .work .lowers) j (ap (λ (x : Work). getD (x .lowers) j 0) o ∙ zeros-fresh j)
+    start-by Level o h = let z : _≡_ {A = ℕ} 0 1 = cc in absurd (omega arith)
+    start-by Optimum o h = let z : _≡_ {A = ℕ} 0 1 = cc in absurd (omega arith)
+    start-by Incoherent o h = λ j. zero-front (many L) (s .work .lowers) j (ap (λ (x : Work). getD (x .lowers) j 0) o ∙ zeros-fresh j)
+    start-by Full o h = let z : _≡_ {A = ℕ} 0 1 = cc in absurd (omega arith)
+
+    end-meets : AtEnd S (s .work) → Inv (given S) (state Optimum) → lowersIn S s ≡ uppersIn S s
+    end-meets o i =
+        end-lowers (s .work) o ∙ sym (optimum-is (given S) c (pastAt L (s .work .level)) (settledAt (s .work .lowers) (s .work .level)) (bestIn s) i)
+        ∙ sym (ap (take (many L)) (o .uppers) ∙ costs-are L (s .work .best))
+
     -- the invariant, where the phase is known
     inv-at : {p : Phase} → s .phase ≡ p → Inv (given S) (state p)
     inv-at e = subst (λ (x : Phase). Inv (given S) (state x)) e (v .inv)
+
+    order-at : {p : Phase} → s .phase ≡ p → InOrder S p (s .work)
+    order-at e = subst (λ (x : Phase). InOrder S x (s .work)) e (v .order)
 
     pub valid-facts : Facts S c s
     valid-facts = record {
@@ -219,6 +279,14 @@ module _ (S : Source) (f : FormedSource S) where
       level = level-by (s .phase) (v .order);
       stratum = stratum-by (s .phase) (v .inv);
       identity = identity-by (s .phase) (v .order) (v .inv);
+      as-many =
+          ap length (lowers-are (s .phase) c (s .advances) (s .trail) (s .blame) (s .work) (v .order)) ∙ lowers-long (given S) (state (s .phase)) (v .inv)
+          ∙ length-span (levelAt L) 0 (many L);
+      settled = settled-by (s .phase) (v .order) (v .inv);
+      unsettled = λ e. level-unsettled (order-at e) (inv-at e);
+      later = later-by (s .phase) (v .order);
+      start = start-by (s .phase) (v .order);
+      bounds-meet = λ e. end-meets (order-at e) (inv-at e);
     }
 
 -- ---- THE BEST MODEL NEVER GETS DEARER, AND ONCE THERE IT STAYS
@@ -232,15 +300,15 @@ falls-by S Optimum c t ms w N h = (refl, h)
 falls-by S Incoherent c t ms w N h = absurd h
 falls-by S Full c t ms w N h = (refl, h)
 
-best-by : (S : Source) → FormedSource S → (p : Phase) (c k : ℕ) (t : Trail) (b : Blame) (w : Work) → Valid S c (searchOf p k t b w) → hasModel p ≡ true
+best-by : (S : Source) → FormedSource S → (p : Phase) (c k : ℕ) (t : Places) (b : Blame) (w : Work) → Valid S c (searchOf p k t b w) → hasModel p ≡ true
     → (hasModel (advanceOf S (searchOf p k t b w) .phase) ≡ true) × NoDearer ltb (costsIn S (bestIn (advanceOf S (searchOf p k t b w)))) (costsIn S (setOf (w .best)))
 unfolding advanceOf
 best-by S f First c k t b w v h = let z : _≡_ {A = ℕ} 0 1 = cc in absurd (omega arith)
 best-by S f Level c k t b w v h =
-    let x : Turned = turnOf S (workQuery w) (placesOf t) b in
+    let x : Turned = turnOf S (workQuery w) (t) b in
     let n : Search = finishTurn S Level (bumped k) w x in
-    falls-by S (n .phase) (suc c) (trailOf (placesOf (n .trail))) (blamedOf (n .blame)) (n .work) (setOf (w .best))
-    (subst (λ (y : abstract.State). Falls (levelsIn (S .levels)) (some (setOf (w .best))) (abstract.bestOf y)) (sym (level-means S f w (v .order) (v .blame) (placesOf t) (v .trail) c (bumped k) (v .inv)))
+    falls-by S (n .phase) (suc c) (trailOf (n .trail)) (blamedOf (n .blame)) (n .work) (setOf (w .best))
+    (subst (λ (y : abstract.State). Falls (levelsIn (S .levels)) (some (setOf (w .best))) (abstract.bestOf y)) (sym (level-means S f w (v .order) (v .blame) (t) (v .trail) c (bumped k) (v .inv)))
     (work-falls (levelsIn (S .levels)) (suc c) (workOf (S .levels) w) (seen x)))
 best-by S f Optimum c k t b w v h = (refl, no-dearer-refl ltb ltb-linear (costsIn S (setOf (w .best))))
 best-by S f Incoherent c k t b w v h = let z : _≡_ {A = ℕ} 0 1 = cc in absurd (omega arith)

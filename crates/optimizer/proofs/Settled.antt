@@ -15,12 +15,12 @@ use Rattle.asp.specs.Cost.{cost}
 use Rattle.asp.specs.Growth.{stabilityOf}
 use Rattle.asp.specs.declared.stable.Stability.{Stability}
 use Rattle.asp.specs.declared.stable.Stability.the-variants.{Stable, Violated, NotLeast}
-use Rattle.cores.specs.Judging.{Judging, violatedIn, firstViolated}
+use Rattle.cores.specs.Judging.{Judging, violatedAt, firstViolated}
 use Rattle.cores.specs.declared.judge.Judged.{Judged}
 use Rattle.optimizer.specs.declared.state.Judgement.{Judgement}
 use Rattle.optimizer.specs.declared.state.Judgement.the-variants.{Dead}
 use Rattle.optimizer.specs.Source.{Source, rulesIn, levelAt}
-use Rattle.optimizer.specs.Turn.{Query, query, settledFrom, inClass, softOrWanted, judgeFull}
+use Rattle.optimizer.specs.Turn.{QueryTables, queryTables, settledFrom, inClass, softOrWanted, judgeFull}
 
 -- ---- the loop
 
@@ -81,8 +81,8 @@ module _ (S : Source) (level : ℕ) (lowers : List ℕ) (M : Set) where
   pub class-unstable : {a : Bool} → a ≡ isStable (S .n) (rulesIn S) M → a ≡ false → false ≡ inClass S level lowers M
   class-unstable e q = rw (← e, q)
 
-module _ (S : Source) (q : Query) (ms v : List ℕ) where
-  pub full-soft : {a : Bool} → a ≡ inClass S (q .level) (q .lowers) (setOf v) → a ≡ true → {j : Judged} → j ≡ firstViolated (violatedIn (q .judging) (setOf v)) (ms ++ q .assumed)
+module _ (S : Source) (q : QueryTables) (ms v : List ℕ) where
+  pub full-soft : {a : Bool} → a ≡ inClass S (q .level) (q .lowers) (setOf v) → a ≡ true → {j : Judged} → j ≡ firstViolated (violatedAt (q .judging) (setOf v)) (ms ++ q .assumed)
       → {r : Judgement} → r ≡ softOrWanted j → r ≡ judgeFull S q ms v
   full-soft e t f g = rw (← e, t, ← f) g
 

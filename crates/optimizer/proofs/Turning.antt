@@ -12,19 +12,23 @@ use lib.Dec.{T, eqb}
 use lib.IntN.{ℤ, pos}
 use lib.ListN.{length, getD, set, drop, replicate, length-set, length-drop, length-replicate, getD-replicate}
 use lib.Seq.{drop-cons, drop-set-lt, getD-set-same, getD-set-other, drop-nil}
+use Rattle.indexing.specs.Leaf.{Tallied}
+use Rattle.search.specs.Scan.{Rules}
+use Rattle.counting.specs.Tally.{Index, Tally}
 use borrow.Author.Tests.{eq-eqb, ne-eqb, eqb-true, eqb-false}
 use Rattle.asp.specs.Sets.{setOf, pick}
 use Rattle.asp.specs.Program.{All}
 use Rattle.asp.specs.Stable.{member}
-use Rattle.search.specs.Places.{Places, places, Sound, Good, backOf, pushOf}
-use Rattle.search.specs.Soft.{Assumed, assumed, FormedSoft}
+use Rattle.search.specs.declared.trail.Places.{Places}
+use Rattle.search.specs.Places.{places, SoundTrail, Good, backOf, pushOf}
+use Rattle.search.specs.Soft.{AssumedEntries, assumedEntries, FormedSoft}
 use Rattle.search.specs.Step.{testOf, Stepped, stepped, stepOf, movedBy}
 use Rattle.search.specs.declared.step.Tested.{Tested}
 use Rattle.search.specs.declared.step.Tested.the-variants.{RuleBroken, Full, SoftViolated, Open}
 use Rattle.search.proofs.Steps.{back-sound, test-says, step-sound}
 use Rattle.cores.specs.Sums.{Out, Distinct, Holds, wsum}
 use Rattle.cores.proofs.Sums.{members-weigh, wsum-replicate-one}
-use Rattle.cores.specs.Judging.{Judging, violatedIn, firstViolated}
+use Rattle.cores.specs.Judging.{Judging, violatedAt, firstViolated}
 use Rattle.cores.specs.declared.judge.Judged.{Judged}
 use Rattle.cores.specs.declared.judge.Judged.the-variants.{Met}
 use Rattle.cores.specs.declared.judge.Judged.the-variants as judged
@@ -35,7 +39,7 @@ use Rattle.optimizer.specs.declared.state.Judgement.{Judgement}
 use Rattle.optimizer.specs.declared.state.Judgement.the-variants.{Wanted, Dead, Violated}
 use Rattle.optimizer.specs.declared.turn.Turning.{Turning}
 use Rattle.optimizer.specs.Source.{Source, ruleTables}
-use Rattle.optimizer.specs.Turn.{Query, query, blame, blamedOf, blameEntry, blamePlace, flagged, inClass, softOrWanted, judgeFull, Turned, turned, backed, judgedTurn, turnBy, queryTables, turnOf, isGoing, Turns, turns, oneMore, goOn, turnsOf}
+use Rattle.optimizer.specs.Turn.{QueryTables, queryTables, blameTables, blamedOf, blameEntry, blamePlace, flagged, inClass, softOrWanted, judgeFull, Turned, turned, backed, judgedTurn, turnBy, assumedBy, turnOf, isGoing, Turns, turns, oneMore, goOn, turnsOf}
 use Rattle.optimizer.specs.Ready.{softs, ReadyQuery, GoodBlame, backedTo, turning}
 
 clash : {A : Type 0} → true ≡ false → A
@@ -67,7 +71,7 @@ all-at P [] a i h = absurd (omega arith)
 all-at P (x ∷ ps) a zero h = a .0
 all-at P (x ∷ ps) a (suc i) h = all-at P ps (a .1) i (omega arith)
 
-module _ {S : Source} {q : Query} {b : Blame} (r : ReadyQuery S q) (g : GoodBlame q b) where
+module _ {S : Source} {q : QueryTables} {b : Blame} (r : ReadyQuery S q) (g : GoodBlame q b) where
   -- there is room for one more
   pub blame-room : (p : ℕ) → p < softs q → member p (blamedOf b) ≡ false → 1 ≤ b .from
   blame-room p h e = go (b .from) refl
@@ -90,11 +94,11 @@ drop-front core from p h l =
     drop-cons (set core (from - 1) p) (from - 1) 0 (rw length-set (omega arith))
     ∙ ap₂ (λ (x : ℕ) (xs : List ℕ). x ∷ xs) (getD-set-same core (from - 1) p 0 (omega arith)) (drop-set-lt (suc (from - 1)) core (from - 1) p (omega arith) ∙ ap (λ (k : ℕ). drop k core) (sym e))
 
-module _ {S : Source} {q : Query} {b : Blame} (r : ReadyQuery S q) (g : GoodBlame q b) where
+module _ {S : Source} {q : QueryTables} {b : Blame} (r : ReadyQuery S q) (g : GoodBlame q b) where
   -- a new place p, with flags that say of each entry's place whether it is p or was flagged
   added : (p : ℕ) (fs : List ℕ) → p < softs q → member p (blamedOf b) ≡ false → length fs ≡ 4096
       → ((i : ℕ) → i < length (q .places) → eqb (getD fs i 0) 1 ≡ (eqb (getD (q .places) i 0) p || eqb (getD (b .flags) i 0) 1))
-      → GoodBlame q (blame fs (set (b .core) (b .from - 1) p) (b .from - 1))
+      → GoodBlame q (blameTables fs (set (b .core) (b .from - 1) p) (b .from - 1))
   unfolding member
   added p fs h e l f =
       let room = blame-room r g p h e in
@@ -122,7 +126,7 @@ module _ {S : Source} {q : Query} {b : Blame} (r : ReadyQuery S q) (g : GoodBlam
           by (yes z) = rw (z, getD-set-same (b .flags) i 1 0 (omega (arith, g .flags-len, r .wished-few, r .places-long)), eq-eqb (getD (q .places) i 0) (getD (q .places) i 0) refl)
           by (no z) = rw (getD-set-other (b .flags) i j 1 0 z, ne-eqb (getD (q .places) j 0) (getD (q .places) i 0) (λ y. z (r .places-apart j i k h y)))
 
-      go : (x : Bool) → eqb (getD (b .flags) i 0) 1 ≡ x → GoodBlame q (pick x b (blame (set (b .flags) i 1) (set (b .core) (b .from - 1) (getD (q .places) i 0)) (b .from - 1)))
+      go : (x : Bool) → eqb (getD (b .flags) i 0) 1 ≡ x → GoodBlame q (pick x b (blameTables (set (b .flags) i 1) (set (b .core) (b .from - 1) (getD (q .places) i 0)) (b .from - 1)))
       go true e = g
       go false e =
           added (getD (q .places) i 0) (set (b .flags) i 1) (all-at (λ m. m < softs q) (q .places) (r .places-in) i h) (here e) (length-set (b .flags) i 1 ∙ g .flags-len) (flag e)
@@ -178,7 +182,7 @@ pick-flag : (b : Bool) (x : ℕ) → eqb (pick b 1 x) 1 ≡ (b || eqb x 1)
 pick-flag true x = refl
 pick-flag false x = refl
 
-module _ {S : Source} {q : Query} {b : Blame} (r : ReadyQuery S q) (g : GoodBlame q b) where
+module _ {S : Source} {q : QueryTables} {b : Blame} (r : ReadyQuery S q) (g : GoodBlame q b) where
   pub place-good : (p : ℕ) → p < softs q → GoodBlame q (blamePlace (q .places) p b)
   place-good p h = go (member p (blamedOf b)) refl
     where
@@ -187,7 +191,7 @@ module _ {S : Source} {q : Query} {b : Blame} (r : ReadyQuery S q) (g : GoodBlam
           let z : 0 + i ≡ i = omega arith in
           ap (λ (n : ℕ). eqb n 1) (rw z at (flagged-at p 0 (q .places) (b .flags) i k (omega (arith, g .flags-len, r .places-long, r .wished-few)))) ∙ pick-flag (eqb (getD (q .places) i 0) p) (getD (b .flags) i 0)
 
-      go : (x : Bool) → member p (blamedOf b) ≡ x → GoodBlame q (pick x b (blame (flagged p 0 (q .places) (b .flags)) (set (b .core) (b .from - 1) p) (b .from - 1)))
+      go : (x : Bool) → member p (blamedOf b) ≡ x → GoodBlame q (pick x b (blameTables (flagged p 0 (q .places) (b .flags)) (set (b .core) (b .from - 1) p) (b .from - 1)))
       go true e = g
       go false e = added r g p (flagged p 0 (q .places) (b .flags)) h e (flagged-long p 0 (q .places) (b .flags) ∙ g .flags-len) flag
 
@@ -209,26 +213,26 @@ module _ {S : Source} {q : Query} {b : Blame} (r : ReadyQuery S q) (g : GoodBlam
   pub violated-in : (v : List ℕ) {p : ℕ} → Violated p ≡ judgeFull S q (blamedOf b) v → p < softs q
   violated-in v {p} e = go (inClass S (q .level) (q .lowers) (setOf v)) refl e
     where
-      soft : (j : Judged) → Violated p ≡ softOrWanted j → j ≡ firstViolated (violatedIn (q .judging) (setOf v)) (blamedOf b ++ q .assumed) → p < softs q
+      soft : (j : Judged) → Violated p ≡ softOrWanted j → j ≡ firstViolated (violatedAt (q .judging) (setOf v)) (blamedOf b ++ q .assumed) → p < softs q
       soft Met k z = let w : _≡_ {A = ℕ} 0 1 = cc in absurd (omega arith)
       soft (judged.Violated x) k z =
           let w : p ≡ x = cc in
-          rw w (first-in (λ m. m < softs q) (violatedIn (q .judging) (setOf v)) (blamedOf b ++ q .assumed) (all-both (λ m. m < softs q) (blamedOf b) (q .assumed) (g .inside) (r .assumed-in)) x z)
+          rw w (first-in (λ m. m < softs q) (violatedAt (q .judging) (setOf v)) (blamedOf b ++ q .assumed) (all-both (λ m. m < softs q) (blamedOf b) (q .assumed) (g .inside) (r .assumed-in)) x z)
 
-      go : (x : Bool) → inClass S (q .level) (q .lowers) (setOf v) ≡ x → Violated p ≡ pick x (softOrWanted (firstViolated (violatedIn (q .judging) (setOf v)) (blamedOf b ++ q .assumed))) Dead → p < softs q
-      go true z k = soft (firstViolated (violatedIn (q .judging) (setOf v)) (blamedOf b ++ q .assumed)) k refl
+      go : (x : Bool) → inClass S (q .level) (q .lowers) (setOf v) ≡ x → Violated p ≡ pick x (softOrWanted (firstViolated (violatedAt (q .judging) (setOf v)) (blamedOf b ++ q .assumed))) Dead → p < softs q
+      go true z k = soft (firstViolated (violatedAt (q .judging) (setOf v)) (blamedOf b ++ q .assumed)) k refl
       go false z k = let w : _≡_ {A = ℕ} 0 1 = cc in absurd (omega arith)
 
-  pub soft-formed : FormedSoft (S .n) (queryTables q b)
+  pub soft-formed : FormedSoft (S .n) (assumedBy q b)
   soft-formed = record { wished-long = omega arith; blamed-long = omega (arith, g .flags-len, r .wished-few); atoms = r .wished-in }
 
   -- ---- after a step
 
-  module _ (t : Places) (d : Sound (S .n) t) where
-    backed-sound : (b₁ : Blame) → Sound (S .n) (backed (backOf t) b₁ .trail)
+  module _ (t : Places) (d : SoundTrail (S .n) t) where
+    backed-sound : (b₁ : Blame) → SoundTrail (S .n) (backed (backOf t) b₁ .trail)
     backed-sound b₁ = go (eqb (backOf t .len) 0)
       where
-        go : (x : Bool) → Sound (S .n) (pick x (turned Without (backOf t) b₁) (turned Going (backOf t) b₁) .trail)
+        go : (x : Bool) → SoundTrail (S .n) (pick x (turned Without (backOf t) b₁) (turned Going (backOf t) b₁) .trail)
         go true = back-sound (S .n) t d
         go false = back-sound (S .n) t d
 
@@ -239,7 +243,7 @@ module _ {S : Source} {q : Query} {b : Blame} (r : ReadyQuery S q) (g : GoodBlam
         go true = k
         go false = k
 
-    judged-sound : (j : Judgement) → Sound (S .n) (judgedTurn q t b j .trail)
+    judged-sound : (j : Judgement) → SoundTrail (S .n) (judgedTurn q t b j .trail)
     judged-sound Wanted = d
     judged-sound Dead = backed-sound b
     judged-sound (Violated p) = backed-sound (blamePlace (q .places) p b)
@@ -250,22 +254,22 @@ module _ {S : Source} {q : Query} {b : Blame} (r : ReadyQuery S q) (g : GoodBlam
     judged-blame (Violated p) e = backed-blame (blamePlace (q .places) p b) (place-good p (violated-in (t .value) e))
 
     abbrev x : Tested
-    x = testOf (ruleTables S) (S .n) (queryTables q b) (t .value) (t .len)
+    x = testOf (ruleTables S) (S .n) (assumedBy q b) (t .value) (t .len)
 
     pub violated-entry : {i : ℕ} → x ≡ SoftViolated i → i < length (q .places)
     violated-entry {i} e =
-        let z = rw e at (test-says (S .n) (S .pool) (S .rows) (S .rulecount) (r .source .rules) (queryTables q b) soft-formed t d) in
+        let z = rw e at (test-says (S .n) (S .pool) (S .rows) (S .rulecount) (r .source .rules) (assumedBy q b) soft-formed t d) in
         omega (arith, z .2, r .places-long)
 
-    pub turn-sound : Sound (S .n) (turnOf S q t b .trail)
+    pub turn-sound : SoundTrail (S .n) (turnOf S q t b .trail)
     unfolding turnOf
     turn-sound = go x refl
       where
-        go : (y : Tested) → x ≡ y → Sound (S .n) (turnBy S q t b y .trail)
+        go : (y : Tested) → x ≡ y → SoundTrail (S .n) (turnBy S q t b y .trail)
         go (RuleBroken k) e = backed-sound b
         go (SoftViolated i) e = backed-sound (blameEntry (q .places) i b)
         go Full e = judged-sound (judgeFull S q (blamedOf b) (t .value))
-        go (Open l) e = rw e at (step-sound (S .n) (S .pool) (S .rows) (S .rulecount) (r .source .rules) (queryTables q b) soft-formed t d)
+        go (Open l) e = rw e at (step-sound (S .n) (S .pool) (S .rows) (S .rulecount) (r .source .rules) (assumedBy q b) soft-formed t d)
 
     pub turn-blame : GoodBlame q (turnOf S q t b .blame)
     unfolding turnOf
@@ -281,15 +285,15 @@ module _ {S : Source} {q : Query} {b : Blame} (r : ReadyQuery S q) (g : GoodBlam
 
 -- after a cut to length k
 pub backed-is : (ls : List ℤ) (ms v : List ℕ) (k from : ℕ) (fs core : List ℕ) {r : Turning} → r ≡ backedTo k from → {t₁ : Places} → places ls ms v k ≡ t₁
-    → turned (r .turn) (places ls ms v (r .len)) (blame fs core (r .from)) ≡ backed t₁ (blame fs core from)
+    → turned (r .turn) (places ls ms v (r .len)) (blameTables fs core (r .from)) ≡ backed t₁ (blameTables fs core from)
 backed-is ls ms v k from fs core e f = rw (e, ← f) (go (eqb k 0))
   where
-    go : (x : Bool) → turned (pick x (turning Without k from) (turning Going k from) .turn) (places ls ms v (pick x (turning Without k from) (turning Going k from) .len)) (blame fs core (pick x (turning Without k from) (turning Going k from) .from))
-        ≡ pick x (turned Without (places ls ms v k) (blame fs core from)) (turned Going (places ls ms v k) (blame fs core from))
+    go : (x : Bool) → turned (pick x (turning Without k from) (turning Going k from) .turn) (places ls ms v (pick x (turning Without k from) (turning Going k from) .len)) (blameTables fs core (pick x (turning Without k from) (turning Going k from) .from))
+        ≡ pick x (turned Without (places ls ms v k) (blameTables fs core from)) (turned Going (places ls ms v k) (blameTables fs core from))
     go true = refl
     go false = refl
 
-module _ (S : Source) (q : Query) (t : Places) (b : Blame) where
+module _ (S : Source) (q : QueryTables) (t : Places) (b : Blame) where
   pub judged-wanted : {j : Judgement} → j ≡ judgeFull S q (blamedOf b) (t .value) → j ≡ Wanted → turned Model t b ≡ judgedTurn q t b (judgeFull S q (blamedOf b) (t .value))
   judged-wanted e k = rw (← e, k)
 
@@ -300,29 +304,29 @@ module _ (S : Source) (q : Query) (t : Places) (b : Blame) where
       → x ≡ judgedTurn q t b (judgeFull S q (blamedOf b) (t .value))
   judged-violated e k f z = rw (← e, k, ← f) z
 
-  tested-is : {x : Tested} {t₁ : Places} → stepped x t₁ ≡ stepOf (ruleTables S) (S .n) (queryTables q b) t → x ≡ testOf (ruleTables S) (S .n) (queryTables q b) (t .value) (t .len)
+  tested-is : {x : Tested} {t₁ : Places} → stepped x t₁ ≡ stepOf (ruleTables S) (S .n) (assumedBy q b) t → x ≡ testOf (ruleTables S) (S .n) (assumedBy q b) (t .value) (t .len)
   tested-is e = ap (λ (s : Stepped). s .tested) e
 
   -- the trail after a step that finds y
-  pub moved : {x : Tested} {t₁ : Places} → stepped x t₁ ≡ stepOf (ruleTables S) (S .n) (queryTables q b) t → (y : Tested) → x ≡ y → t₁ ≡ movedBy y t
+  pub moved : {x : Tested} {t₁ : Places} → stepped x t₁ ≡ stepOf (ruleTables S) (S .n) (assumedBy q b) t → (y : Tested) → x ≡ y → t₁ ≡ movedBy y t
   moved e y z = ap (λ (s : Stepped). s .trail) e ∙ ap (λ (w : Tested). movedBy w t) (sym (tested-is e) ∙ z)
 
   -- a step is what the test's answer makes of it
-  turn-is : {x : Tested} {t₁ : Places} → stepped x t₁ ≡ stepOf (ruleTables S) (S .n) (queryTables q b) t → (y : Tested) → x ≡ y → turnBy S q t b y ≡ turnOf S q t b
+  turn-is : {x : Tested} {t₁ : Places} → stepped x t₁ ≡ stepOf (ruleTables S) (S .n) (assumedBy q b) t → (y : Tested) → x ≡ y → turnBy S q t b y ≡ turnOf S q t b
   unfolding turnOf
   turn-is e y z = ap (turnBy S q t b) (sym z ∙ tested-is e)
 
-  pub turn-broken : {x : Tested} {t₁ : Places} → stepped x t₁ ≡ stepOf (ruleTables S) (S .n) (queryTables q b) t → {k : ℕ} → x ≡ RuleBroken k → {y : Turned} → y ≡ backed t₁ b → y ≡ turnOf S q t b
+  pub turn-broken : {x : Tested} {t₁ : Places} → stepped x t₁ ≡ stepOf (ruleTables S) (S .n) (assumedBy q b) t → {k : ℕ} → x ≡ RuleBroken k → {y : Turned} → y ≡ backed t₁ b → y ≡ turnOf S q t b
   turn-broken e {k} z f = f ∙ ap (λ (s : Places). backed s b) (moved e (RuleBroken k) z) ∙ turn-is e (RuleBroken k) z
 
-  pub turn-violated : {x : Tested} {t₁ : Places} → stepped x t₁ ≡ stepOf (ruleTables S) (S .n) (queryTables q b) t → {i : ℕ} → x ≡ SoftViolated i → {b₁ : Blame} → b₁ ≡ blameEntry (q .places) i b
+  pub turn-violated : {x : Tested} {t₁ : Places} → stepped x t₁ ≡ stepOf (ruleTables S) (S .n) (assumedBy q b) t → {i : ℕ} → x ≡ SoftViolated i → {b₁ : Blame} → b₁ ≡ blameEntry (q .places) i b
       → {y : Turned} → y ≡ backed t₁ b₁ → y ≡ turnOf S q t b
   turn-violated e {i} z g f = f ∙ ap₂ backed (moved e (SoftViolated i) z) g ∙ turn-is e (SoftViolated i) z
 
-  pub turn-open : {x : Tested} {t₁ : Places} → stepped x t₁ ≡ stepOf (ruleTables S) (S .n) (queryTables q b) t → {l : ℤ} → x ≡ Open l → turned Going t₁ b ≡ turnOf S q t b
+  pub turn-open : {x : Tested} {t₁ : Places} → stepped x t₁ ≡ stepOf (ruleTables S) (S .n) (assumedBy q b) t → {l : ℤ} → x ≡ Open l → turned Going t₁ b ≡ turnOf S q t b
   turn-open e {l} z = ap (λ (s : Places). turned Going s b) (moved e (Open l) z) ∙ turn-is e (Open l) z
 
-  pub turn-full : {x : Tested} {t₁ : Places} → stepped x t₁ ≡ stepOf (ruleTables S) (S .n) (queryTables q b) t → x ≡ Full → {y : Turned} → y ≡ judgedTurn q t₁ b (judgeFull S q (blamedOf b) (t₁ .value)) → y ≡ turnOf S q t b
+  pub turn-full : {x : Tested} {t₁ : Places} → stepped x t₁ ≡ stepOf (ruleTables S) (S .n) (assumedBy q b) t → x ≡ Full → {y : Turned} → y ≡ judgedTurn q t₁ b (judgeFull S q (blamedOf b) (t₁ .value)) → y ≡ turnOf S q t b
   turn-full e z f = f ∙ ap (λ (s : Places). judgedTurn q s b (judgeFull S q (blamedOf b) (s .value))) (moved e Full z) ∙ turn-is e Full z
 
 -- ---- steps in a loop
@@ -330,8 +334,8 @@ module _ (S : Source) (q : Query) (t : Places) (b : Blame) where
 abbrev pub plus : ℕ → Turns → Turns
 plus m r = turns (r .turned) (m + r .made)
 
-pub record Turned-on (S : Source) (q : Query) (budget : ℕ) (t₀ : Places) (b₀ : Blame) (t : Places) (b : Blame) (made : ℕ) : Type 0 where
-  pub trail : Sound (S .n) t
+pub record Turned-on (S : Source) (q : QueryTables) (budget : ℕ) (t₀ : Places) (b₀ : Blame) (t : Places) (b : Blame) (made : ℕ) : Type 0 where
+  pub trail : SoundTrail (S .n) t
   pub blame : GoodBlame q b
   pub below : made ≤ budget
   pub rest : plus made (turnsOf S q (budget - made) t b) ≡ turnsOf S q budget t₀ b₀
@@ -339,10 +343,10 @@ pub record Turned-on (S : Source) (q : Query) (budget : ℕ) (t₀ : Places) (b�
 plus-zero : (r : Turns) → plus 0 r ≡ r
 plus-zero r = let e : 0 + r .made ≡ r .made = omega arith in rw e
 
-pub turns-start : (S : Source) (q : Query) (budget : ℕ) {t : Places} {b : Blame} → Sound (S .n) t → GoodBlame q b → Turned-on S q budget t b t b 0
+pub turns-start : (S : Source) (q : QueryTables) (budget : ℕ) {t : Places} {b : Blame} → SoundTrail (S .n) t → GoodBlame q b → Turned-on S q budget t b t b 0
 turns-start S q budget {t} {b} d g = record { trail = d; blame = g; below = omega arith; rest = rw sub-zero (plus-zero (turnsOf S q budget t b)) }
 
-module _ {S : Source} {q : Query} {budget : ℕ} {t₀ : Places} {b₀ : Blame} {t : Places} {b : Blame} {made : ℕ} (r : ReadyQuery S q) (k : Turned-on S q budget t₀ b₀ t b made) where
+module _ {S : Source} {q : QueryTables} {budget : ℕ} {t₀ : Places} {b₀ : Blame} {t : Places} {b : Blame} {made : ℕ} (r : ReadyQuery S q) (k : Turned-on S q budget t₀ b₀ t b made) where
   more : made < budget → turnsOf S q (budget - made) t b ≡ oneMore (goOn (turnOf S q t b) (turnsOf S q (budget - (made + 1)) (turnOf S q t b .trail) (turnOf S q t b .blame)))
   unfolding turnsOf
   more h = let e : budget - made ≡ suc (budget - (made + 1)) = omega arith in rw e
@@ -371,3 +375,11 @@ module _ {S : Source} {q : Query} {budget : ℕ} {t₀ : Places} {b₀ : Blame} 
       let e : budget - made ≡ 0 = omega arith in
       let z : made + 0 ≡ made = omega arith in
       rw (e, z) at (k .rest)
+
+-- the loop's state with the numbers beside it
+pub record TrackedOn (g : Rules) (o h : Index) (v : List ℕ) (y : Tally) (On : Type 0) : Type 0 where
+  pub on : On
+  pub tallied : Tallied g o h v y
+
+pub tracked : {g : Rules} {o h : Index} {v : List ℕ} {y : Tally} {On : Type 0} → On → Tallied g o h v y → TrackedOn g o h v y On
+tracked a b = record { on = a; tallied = b }

@@ -14,18 +14,17 @@ use Rattle.asp.specs.Program.{Entry, All}
 use Rattle.asp.specs.Stable.{member}
 use Rattle.asp.specs.Tables.{span}
 use Rattle.search.specs.Machine as machine
-use Rattle.search.specs.Places.{Places, Sound, trailOf}
+use Rattle.search.specs.declared.trail.Places.{Places}
+use Rattle.search.specs.Places.{SoundTrail, trailOf}
 use Rattle.search.proofs.Search as search
 use Rattle.cores.specs.Sums.{Distinct}
 use Rattle.cores.specs.Identity.{Core, problem}
-use Rattle.cores.specs.Tables.{levelOf}
-use Rattle.cores.specs.Tables as tables
+use Rattle.cores.specs.Tables.{SoundTables, levelOf}
 use Rattle.cores.specs.declared.level.LevelTables.{LevelTables}
 use Rattle.cores.proofs.Sums.{below-or}
 use Rattle.cores.proofs.Kept.{empty-sound, core-counted, core-inside, core-places, core-bound, distinct-few, level-weight, level-formed}
 use Rattle.optimizer.specs.declared.state.Phase.{Phase}
 use Rattle.optimizer.specs.declared.state.Phase.the-variants.{First, Level, Optimum, Incoherent, Full}
-use Rattle.optimizer.specs.declared.state.Trail.{Trail}
 use Rattle.optimizer.specs.declared.state.Blame.{Blame}
 use Rattle.optimizer.specs.declared.state.Work.{Work}
 use Rattle.optimizer.specs.declared.state.Search.{Search}
@@ -33,10 +32,14 @@ use Rattle.optimizer.specs.declared.state.Turn.{Turn}
 use Rattle.optimizer.specs.declared.state.Turn.the-variants.{Going, Without, Model}
 use Rattle.optimum.specs.Optimize.{State, openNext, noModel, settle, withModel, afterFirst, afterWork}
 use Rattle.optimizer.specs.Source.{Levels, Source, many, levelAt, levelsIn, entriesIn, FormedSource}
-use Rattle.optimizer.specs.Turn.{Query, queryOf, blamedOf, Turned, turned, Turns, turns, turnOf, turnsOf, isGoing}
-use Rattle.optimizer.specs.Finish.{Placed, placed, withBest, openFrom, search as searchOf, trail, placesOf, freshTrail, freshBlame, freshWork, freshSearch, ended, finishOf, afterTurns, finishTurn, workQuery, isRunning, bumped, advanceOf, advancesOf, madeBy}
+use Rattle.optimizer.specs.Turn.{QueryTables, queryOf, blamedOf, Turned, turned, Turns, turns, turnOf, turnsOf, isGoing}
+use Rattle.search.specs.Places.{freshPlaces}
+use Rattle.optimizer.specs.State.{search as searchOf, freshBlame, freshWork, freshSearch, isRunning}
+use Rattle.optimizer.specs.Finish.{Placed, placed, withBest, openFrom, finishOf}
+use Rattle.optimizer.specs.Advance.{endedQuery, afterTurns, finishTurn, workQuery, bumped, advanceOf, advancesOf, madeBy}
 use Rattle.optimizer.specs.Ready.{ReadyQuery, GoodBlame, ReadyCore}
 use Rattle.optimizer.specs.Run.{bumpedBy, stepsOf, ReadyRun}
+use Rattle.optimizer.specs.Meaning.{workOf, meantBy, meant}
 use Rattle.optimum.proofs.Invariant.{Given, levelQuery, firstQuery, GoodWork, GoodFirst, GoodWorking, Inv}
 use Rattle.optimum.proofs.Kept.{core-of, turn-kept, first-kept, start-kept}
 use Rattle.optimizer.proofs.Turning.{turn-sound, turn-blame}
@@ -44,14 +47,14 @@ use Rattle.optimizer.proofs.Finishing.{formed-in}
 use Rattle.optimizer.proofs.Fresh.{drop-all, fresh-query, fresh-trail}
 use Rattle.optimizer.proofs.Advancing.{rest-advance, rest-advances}
 use Rattle.optimizer.proofs.Verdicts.{seenBy, seen, verdict, verdict-says, turn-seen, turn-good, Answers, problemOf}
-use Rattle.optimizer.proofs.Classes.{workOf, laterAt, given, level-ready, level-answers, first-answers}
-use Rattle.optimizer.proofs.Meanings.{meantBy, meant, meantPlaced, OnLevel, AtEnd, InOrder, Ordered, Opened, open-from, model-means, core-means}
+use Rattle.optimizer.proofs.Classes.{given, level-ready, level-answers, first-answers}
+use Rattle.optimizer.proofs.Meanings.{meantPlaced, OnLevel, AtEnd, InOrder, Ordered, Opened, open-from, model-means, core-means}
 
 -- c advances were made
 pub record Valid (S : Source) (c : ℕ) (s : Search) : Type 0 where
   pub figure : s .advances ≡ bumpedBy c 0
   pub order : InOrder S (s .phase) (s .work)
-  pub trail : Sound (S .n) (placesOf (s .trail))
+  pub trail : SoundTrail (S .n) (s .trail)
   pub blame : GoodBlame (workQuery (s .work)) (s .blame)
   pub inv : Inv (given S) (meant (S .levels) c s)
 
@@ -85,7 +88,7 @@ zeros-at zero i = refl
 zeros-at (suc n) zero = refl
 zeros-at (suc n) (suc i) = zeros-at n i
 
-any-blame : (q : Query) → GoodBlame q freshBlame
+any-blame : (q : QueryTables) → GoodBlame q freshBlame
 unfolding member
 any-blame q = record {
   flags-len = length-replicate {A = ℕ} 4096 0;
@@ -96,7 +99,7 @@ any-blame q = record {
   flags = λ i h. ap (λ (x : ℕ). eqb x 1) (zeros-at 4096 i) ∙ sym (ap (member (getD (q .places) i 0)) (drop-all 4096));
 }
 
-meant-ended : (L : Levels) (c k : ℕ) (x : Placed) → meantPlaced L c x ≡ meant L c (ended k x)
+meant-ended : (L : Levels) (c k : ℕ) (x : Placed) → meantPlaced L c x ≡ meant L c (endedQuery k x)
 meant-ended L c k x = ap (λ (ms : List ℕ). meantBy L c (x .phase) [] ms (x .work)) (sym (drop-all 4096))
 
 module _ (S : Source) (f : FormedSource S) where
@@ -112,16 +115,16 @@ module _ (S : Source) (f : FormedSource S) where
   query-ready Incoherent w o = subst (λ (x : Work). ReadyQuery S (workQuery x)) (sym o) (fresh-query S f)
   query-ready Full w o = level-ready S f (w .level) (w .lowers) (w .tables) (w .stratum) (omega (arith, o .level)) (o .lowers-len) (o .sound) (o .kinds)
 
-  pub tables-sound : (p : Phase) (w : Work) → InOrder S p w → tables.Sound (w .tables)
-  tables-sound First w o = subst (λ (x : Work). tables.Sound (x .tables)) (sym o) empty-sound
+  pub tables-sound : (p : Phase) (w : Work) → InOrder S p w → SoundTables (w .tables)
+  tables-sound First w o = subst (λ (x : Work). SoundTables (x .tables)) (sym o) empty-sound
   tables-sound Level w o = o .sound
   tables-sound Optimum w o = o .sound
-  tables-sound Incoherent w o = subst (λ (x : Work). tables.Sound (x .tables)) (sym o) empty-sound
+  tables-sound Incoherent w o = subst (λ (x : Work). SoundTables (x .tables)) (sym o) empty-sound
   tables-sound Full w o = o .sound
 
   -- ---- the end of a query
 
-  ended-valid : (c k : ℕ) {x : Placed} {st : State} → k ≡ bumpedBy c 0 → Opened S f c x st → Inv (given S) st → Valid S c (ended k x)
+  ended-valid : (c k : ℕ) {x : Placed} {st : State} → k ≡ bumpedBy c 0 → Opened S f c x st → Inv (given S) st → Valid S c (endedQuery k x)
   ended-valid c k {x} e o i = record {
     figure = e;
     order = o .order;
@@ -133,16 +136,16 @@ module _ (S : Source) (f : FormedSource S) where
   -- ---- a query on a level
 
   module _ (w : Work) (o : OnLevel S w) where
-    abbrev q : Query
+    abbrev q : QueryTables
     q = workQuery w
 
     abbrev P : search.Problem
     P = levelQuery (given S) (workOf L w)
 
-    ready : ReadyQuery S q
+    pub ready : ReadyQuery S q
     ready = query-ready Level w o
 
-    answers : Answers S q (P .Class) (P .Assumed) (P .Met)
+    pub answers : Answers S q (P .Class) (P .Assumed) (P .Met)
     answers = level-answers S f (w .level) (w .lowers) (w .tables) (w .stratum) (omega (arith, o .level)) (o .lowers-len) (o .sound) (o .kinds)
 
     -- WHAT IS BLAMED AT THE END OF A QUERY WITHOUT A MODEL IS A CORE, and not empty
@@ -169,7 +172,7 @@ module _ (S : Source) (f : FormedSource S) where
       }
 
     -- the state after a turn
-    after-level : (c k : ℕ) → k ≡ bumpedBy c 0 → GoodWork (given S) (workOf L w) → (x : Turned) → Sound (S .n) (x .trail) → GoodBlame q (x .blame)
+    after-level : (c k : ℕ) → k ≡ bumpedBy c 0 → GoodWork (given S) (workOf L w) → (x : Turned) → SoundTrail (S .n) (x .trail) → GoodBlame q (x .blame)
         → Inv (given S) (afterWork (levelsIn L) c (workOf L w) (seen x)) → search.Good P (seen x) → Valid S c (finishTurn S Level k w x)
     after-level c k e g x d b i h = go (x .turn) i h
       where
@@ -180,7 +183,7 @@ module _ (S : Source) (f : FormedSource S) where
         go Model i h = ended-valid c k e (model-means S f w o (x .trail .value) c) i
 
     -- it means what the optimizer of `Optimize` comes to
-    means-level : (c k : ℕ) → GoodWork (given S) (workOf L w) → (x : Turned) → search.Good P (seen x) → meant L c (finishTurn S Level k w x) ≡ afterWork (levelsIn L) c (workOf L w) (seen x)
+    pub means-level : (c k : ℕ) → GoodWork (given S) (workOf L w) → (x : Turned) → search.Good P (seen x) → meant L c (finishTurn S Level k w x) ≡ afterWork (levelsIn L) c (workOf L w) (seen x)
     means-level c k g x h = go (x .turn) h
       where
         go : (y : Turn) → search.Good P (seenBy y (x .trail) (x .blame))
@@ -191,7 +194,7 @@ module _ (S : Source) (f : FormedSource S) where
             ∙ core-means S f w o (blamedOf (x .blame)) (is-core g (blamedOf (x .blame)) h .some) (few g (blamedOf (x .blame)) h) (inside g (blamedOf (x .blame)) h) c .means
         go Model h = sym (meant-ended L c k (finishOf L Level w (x .trail .value) (blamedOf (x .blame)) Model)) ∙ model-means S f w o (x .trail .value) c .means
 
-    module _ {b : Blame} (d : GoodBlame q b) (t : Places) (k : Sound (S .n) t) where
+    module _ {b : Blame} (d : GoodBlame q b) (t : Places) (k : SoundTrail (S .n) t) where
       pub level-means : (c m : ℕ) → GoodWorking (given S) c (workOf L w) (trailOf t) (blamedOf b)
           → meant L (suc c) (finishTurn S Level m w (turnOf S q t b)) ≡ afterWork (levelsIn L) (suc c) (workOf L w) (seen (turnOf S q t b))
       level-means c m g = means-level (suc c) m (g .work) (turnOf S q t b) (turn-good ready answers d (g .trail .assumed) t k (g .trail))
@@ -199,12 +202,12 @@ module _ (S : Source) (f : FormedSource S) where
       level-next : (c m : ℕ) → m ≡ bumpedBy (suc c) 0 → GoodWorking (given S) c (workOf L w) (trailOf t) (blamedOf b) → Valid S (suc c) (finishTurn S Level m w (turnOf S q t b))
       level-next c m e g =
           after-level (suc c) m e (g .work) (turnOf S q t b) (turn-sound ready d t k) (turn-blame ready d t k)
-          (subst (λ (x : machine.State). Inv (given S) (afterWork (levelsIn L) (suc c) (workOf L w) x)) (sym (turn-seen ready d t k))
+          (subst (λ (x : machine.QueryState). Inv (given S) (afterWork (levelsIn L) (suc c) (workOf L w) x)) (sym (turn-seen ready d t k))
           (turn-kept (given S) c (workOf L w) (trailOf t) (blamedOf b) (verdict S q t b) g (verdict-says ready answers d (g .trail .assumed) t k)))
           (turn-good ready answers d (g .trail .assumed) t k (g .trail))
 
     -- and after any number of turns
-    turns-good : (n : ℕ) {t : Places} {b : Blame} → Sound (S .n) t → GoodBlame q b → search.GoodTrail P (trailOf t) (blamedOf b) → search.Good P (seen (turnsOf S q n t b .turned))
+    turns-good : (n : ℕ) {t : Places} {b : Blame} → SoundTrail (S .n) t → GoodBlame q b → search.GoodTrail P (trailOf t) (blamedOf b) → search.Good P (seen (turnsOf S q n t b .turned))
     unfolding turnsOf
     turns-good zero d g h = h
     turns-good (suc n) {t} {b} d g h =
@@ -219,7 +222,7 @@ module _ (S : Source) (f : FormedSource S) where
 
   -- ---- the first query
 
-  first-ready : ReadyQuery S (workQuery freshWork)
+  pub first-ready : ReadyQuery S (workQuery freshWork)
   first-ready = fresh-query S f
 
   -- nothing is blamed in it
@@ -227,7 +230,7 @@ module _ (S : Source) (f : FormedSource S) where
   none-blamed [] a = refl
   none-blamed (m ∷ ms) a = absurd (omega (arith, a .0))
 
-  first-blamed : {b : Blame} → GoodBlame (workQuery freshWork) b → blamedOf b ≡ []
+  pub first-blamed : {b : Blame} → GoodBlame (workQuery freshWork) b → blamedOf b ≡ []
   unfolding queryOf
   first-blamed {b} g = none-blamed (blamedOf b) (g .inside)
 
@@ -236,7 +239,7 @@ module _ (S : Source) (f : FormedSource S) where
       subst (λ (k : ℕ). Opened S f c (openFrom L (withBest L freshWork v) 0) (openNext c [] [] (span (levelAt L) 0 k) (setOf v))) (sub-zero (many L))
       (open-from S f c (withBest L freshWork v) 0 zero-le (length-replicate {A = ℕ} 8 0) (λ i h. zeros-at 8 i) refl empty-sound tt)
 
-  after-first : (c k : ℕ) → k ≡ bumpedBy c 0 → (x : Turned) → Sound (S .n) (x .trail) → GoodBlame (workQuery freshWork) (x .blame) → Inv (given S) (afterFirst (levelsIn L) c (seen x))
+  after-first : (c k : ℕ) → k ≡ bumpedBy c 0 → (x : Turned) → SoundTrail (S .n) (x .trail) → GoodBlame (workQuery freshWork) (x .blame) → Inv (given S) (afterFirst (levelsIn L) c (seen x))
       → Valid S c (finishTurn S First k freshWork x)
   after-first c k e x d b i = go (x .turn) i
     where
@@ -245,15 +248,24 @@ module _ (S : Source) (f : FormedSource S) where
       go Without i = ended-valid c k e (record { means = refl; order = refl }) i
       go Model i = ended-valid c k e (first-model c (x .trail .value)) i
 
-  module _ {b : Blame} (d : GoodBlame (workQuery freshWork) b) (t : Places) (k : Sound (S .n) t) where
-    none-assumed : All (λ (m : ℕ). ⊥) (blamedOf b)
+  -- it means what the optimizer of `Optimize` comes to
+  pub means-first : (c k : ℕ) (x : Turned) → meant L c (finishTurn S First k freshWork x) ≡ afterFirst (levelsIn L) c (seen x)
+  means-first c k x = go (x .turn)
+    where
+      go : (y : Turn) → meant L c (afterTurns L First k freshWork (turned y (x .trail) (x .blame))) ≡ afterFirst (levelsIn L) c (seenBy y (x .trail) (x .blame))
+      go Going = refl
+      go Without = refl
+      go Model = sym (meant-ended L c k (finishOf L First freshWork (x .trail .value) (blamedOf (x .blame)) Model)) ∙ first-model c (x .trail .value) .means
+
+  module _ {b : Blame} (d : GoodBlame (workQuery freshWork) b) (t : Places) (k : SoundTrail (S .n) t) where
+    pub none-assumed : All (λ (m : ℕ). ⊥) (blamedOf b)
     none-assumed = subst (All (λ (m : ℕ). ⊥)) (sym (first-blamed d)) tt
 
     first-next : (c m : ℕ) → m ≡ bumpedBy (suc c) 0 → GoodFirst (given S) c (trailOf t) → Valid S (suc c) (finishTurn S First m freshWork (turnOf S (workQuery freshWork) t b))
     first-next c m e g =
         after-first (suc c) m e (turnOf S (workQuery freshWork) t b) (turn-sound first-ready d t k) (turn-blame first-ready d t k)
-        (subst (λ (x : machine.State). Inv (given S) (afterFirst (levelsIn L) (suc c) x))
-        (ap (machine.advance (verdict S (workQuery freshWork) t b) (trailOf t)) (sym (first-blamed d)) ∙ sym (turn-seen first-ready d t k))
+        (subst (λ (x : machine.QueryState). Inv (given S) (afterFirst (levelsIn L) (suc c) x))
+        (ap (machine.advanceBy (verdict S (workQuery freshWork) t b) (trailOf t)) (sym (first-blamed d)) ∙ sym (turn-seen first-ready d t k))
         (first-kept (given S) c (trailOf t) (verdict S (workQuery freshWork) t b) g (verdict-says first-ready (first-answers S f) d none-assumed t k)))
 
   -- ---- AN ADVANCE KEEPS A STATE VALID
@@ -261,15 +273,15 @@ module _ (S : Source) (f : FormedSource S) where
   pub fresh-valid : Valid S 0 freshSearch
   fresh-valid = record { figure = refl; order = refl; trail = fresh-trail S f; blame = any-blame (workQuery freshWork); inv = start-kept (given S) }
 
-  advance-by : (p : Phase) (c k : ℕ) (t : Trail) (b : Blame) (w : Work) → Valid S c (searchOf p k t b w) → isRunning p ≡ true → Valid S (suc c) (advanceOf S (searchOf p k t b w))
+  advance-by : (p : Phase) (c k : ℕ) (t : Places) (b : Blame) (w : Work) → Valid S c (searchOf p k t b w) → isRunning p ≡ true → Valid S (suc c) (advanceOf S (searchOf p k t b w))
   unfolding advanceOf
   advance-by First c k t b w v r =
       let e : bumped k ≡ bumpedBy (suc c) 0 = ap bumped (v .figure) ∙ figure-next c in
-      subst (λ (x : Work). Valid S (suc c) (finishTurn S First (bumped k) x (turnOf S (workQuery x) (placesOf t) b))) (sym (v .order))
-      (first-next (subst (λ (x : Work). GoodBlame (workQuery x) b) (v .order) (v .blame)) (placesOf t) (v .trail) c (bumped k) e (v .inv))
+      subst (λ (x : Work). Valid S (suc c) (finishTurn S First (bumped k) x (turnOf S (workQuery x) (t) b))) (sym (v .order))
+      (first-next (subst (λ (x : Work). GoodBlame (workQuery x) b) (v .order) (v .blame)) (t) (v .trail) c (bumped k) e (v .inv))
   advance-by Level c k t b w v r =
       let e : bumped k ≡ bumpedBy (suc c) 0 = ap bumped (v .figure) ∙ figure-next c in
-      level-next w (v .order) (v .blame) (placesOf t) (v .trail) c (bumped k) e (v .inv)
+      level-next w (v .order) (v .blame) (t) (v .trail) c (bumped k) e (v .inv)
   advance-by Optimum c k t b w v r = let z : _≡_ {A = ℕ} 0 1 = cc in absurd (omega arith)
   advance-by Incoherent c k t b w v r = let z : _≡_ {A = ℕ} 0 1 = cc in absurd (omega arith)
   advance-by Full c k t b w v r = let z : _≡_ {A = ℕ} 0 1 = cc in absurd (omega arith)
@@ -295,12 +307,12 @@ module _ (S : Source) (f : FormedSource S) where
 
   -- ---- A VALID STATE CAN BE ADVANCED
 
-  core-at : (p : Phase) (c k n : ℕ) (t : Trail) (b : Blame) (w : Work) → Valid S c (searchOf p n t b w) → p ≡ Level → turnsOf S (workQuery w) k (placesOf t) b .turned .turn ≡ Without
-      → ReadyCore w (blamedOf (turnsOf S (workQuery w) k (placesOf t) b .turned .blame))
+  core-at : (p : Phase) (c k n : ℕ) (t : Places) (b : Blame) (w : Work) → Valid S c (searchOf p n t b w) → p ≡ Level → turnsOf S (workQuery w) k (t) b .turned .turn ≡ Without
+      → ReadyCore w (blamedOf (turnsOf S (workQuery w) k (t) b .turned .blame))
   core-at p c k n t b w v e h =
       let o : OnLevel S w = subst (λ (x : Phase). InOrder S x w) e (v .order) in
-      let g : GoodWorking (given S) c (workOf L w) (trailOf (placesOf t)) (blamedOf b) = subst (λ (x : Phase). Inv (given S) (meantBy L c x (trailOf (placesOf t)) (blamedOf b) w)) e (v .inv) in
-      let x : Turned = turnsOf S (workQuery w) k (placesOf t) b .turned in
+      let g : GoodWorking (given S) c (workOf L w) (trailOf (t)) (blamedOf b) = subst (λ (x : Phase). Inv (given S) (meantBy L c x (trailOf (t)) (blamedOf b) w)) e (v .inv) in
+      let x : Turned = turnsOf S (workQuery w) k (t) b .turned in
       core-ready w o (g .work) (blamedOf (x .blame)) (subst (λ (y : Turn). search.Good (levelQuery (given S) (workOf L w)) (seenBy y (x .trail) (x .blame))) h (turns-good w o k (v .trail) (v .blame) (g .trail)))
 
   pub valid-ready : (c : ℕ) (s : Search) → Valid S c s → (k : ℕ) → ReadyRun S k s

@@ -5,7 +5,7 @@ use mathlib.Core.Bool.{Bool, true, false}
 use mathlib.Core.List.{List, map}
 use Prim.Native.Nat.{ℕ, suc, _+_, _*_, _^_, _≤_, _<_}
 use lib.Dec.{ltb}
-use lib.ListN.{take, getD}
+use lib.ListN.{length, take, getD}
 use Rattle.asp.specs.Sets.{Set, setOf}
 use Rattle.asp.specs.Program.{Entry, All}
 use Rattle.asp.specs.Stable.{Stable}
@@ -16,7 +16,7 @@ use Rattle.optimizer.specs.declared.state.Phase.{Phase}
 use Rattle.optimizer.specs.declared.state.Phase.the-variants.{First, Level, Optimum, Incoherent, Full}
 use Rattle.optimizer.specs.declared.state.Search.{Search}
 use Rattle.optimizer.specs.Source.{Source, many, levelAt, levelsIn, rulesIn}
-use Rattle.optimizer.specs.Finish.{isRunning}
+use Rattle.optimizer.specs.State.{isRunning}
 use Rattle.optimizer.specs.Run.{bumpedBy}
 
 -- ---- the program that the tables hold
@@ -42,12 +42,12 @@ hasModel Incoherent = false
 hasModel Full = true
 
 -- the level in work: there is one on a level and after full
-abbrev pub inWork : Phase → Bool
-inWork First = false
-inWork Level = true
-inWork Optimum = false
-inWork Incoherent = false
-inWork Full = true
+abbrev pub isInWork : Phase → Bool
+isInWork First = false
+isInWork Level = true
+isInWork Optimum = false
+isInWork Incoherent = false
+isInWork Full = true
 
 abbrev pub lowersIn : Source → Search → List ℕ
 lowersIn S s = take (many (S .levels)) (s .work .lowers)
@@ -80,8 +80,19 @@ pub record Facts (S : Source) (c : ℕ) (s : Search) : Type 0 where
   -- "The status is never full if each level weighs 90 or less."
   pub never-full : All (λ (l : List Entry). weight l ≤ 90) (levelsIn (S .levels)) → s .phase ≡ Full → ⊥
   -- the level in work, from 0, is one of the levels, and its stratum is 1 or more
-  pub level : inWork (s .phase) ≡ true → s .work .level < many (S .levels)
-  pub stratum : inWork (s .phase) ≡ true → 1 ≤ s .work .stratum
+  pub level : isInWork (s .phase) ≡ true → s .work .level < many (S .levels)
+  pub stratum : isInWork (s .phase) ≡ true → 1 ≤ s .work .stratum
   -- "for every stable model with the settled costs, its cost here is the lower bound plus the remaining weights of its unmet wishes; this is proved at every point"
-  pub identity : inWork (s .phase) ≡ true → (M : Set) → Model S M → ((j : ℕ) → j < s .work .level → cost M (levelAt (S .levels) j) ≡ getD (s .work .lowers) j 0)
+  pub identity : isInWork (s .phase) ≡ true → (M : Set) → Model S M → ((j : ℕ) → j < s .work .level → cost M (levelAt (S .levels) j) ≡ getD (s .work .lowers) j 0)
       → cost M (levelAt (S .levels) (s .work .level)) ≡ getD (s .work .lowers) (s .work .level) 0 + violatedWeight M (levelOf (s .work .tables))
+  -- one lower bound for each level
+  pub as-many : length (lowersIn S s) ≡ many (S .levels)
+  -- "settled .. when the best model's cost there equals its lower bound; it then stays settled": on each level before the one in work the bounds are equal
+  pub settled : isInWork (s .phase) ≡ true → (j : ℕ) → j < s .work .level → getD (lowersIn S s) j 0 ≡ getD (uppersIn S s) j 0
+  -- on the level in work they are not, while the status is running
+  pub unsettled : s .phase ≡ Level → getD (lowersIn S s) (s .work .level) 0 < getD (uppersIn S s) (s .work .level) 0
+  -- "Levels not yet in work have lower bound 0."; before a model is found, and where there is none, no level is
+  pub later : isInWork (s .phase) ≡ true → (j : ℕ) → s .work .level < j → getD (lowersIn S s) j 0 ≡ 0
+  pub start : hasModel (s .phase) ≡ false → (j : ℕ) → getD (lowersIn S s) j 0 ≡ 0
+  -- "optimum (a model, every level settled)"
+  pub bounds-meet : s .phase ≡ Optimum → lowersIn S s ≡ uppersIn S s

@@ -1,31 +1,22 @@
--- The end of a query, on the tables: the best model, the stratum, the core, settling and opening levels; and one advance. Document 01, "Question and path" and
--- "Wishes and cores". Assumes nothing: these are definitions.
-use mathlib.Core.Bool.{Bool, true, false}
-use mathlib.Core.List.{List, [], _∷_, _++_}
-use Prim.Native.Nat.{ℕ, zero, suc, _+_, _-_, _^_}
+-- The end of a query, on the tables: the best model, the stratum, the core, settling and opening levels. Document 01, "Question and path" and "Wishes and cores".
+-- Assumes nothing: these are definitions.
+use mathlib.Core.List.{List, _++_}
+use Prim.Native.Nat.{ℕ, zero, suc, _+_, _-_}
 use lib.Dec.{eqb, ltb}
-use lib.IntN.{ℤ, pos}
-use lib.ListN.{length, getD, set, take, drop, replicate}
-use Rattle.asp.specs.Sets.{Set, setOf, pick}
+use lib.ListN.{getD, set, take, drop, replicate}
+use Rattle.asp.specs.Sets.{setOf, pick}
 use Rattle.asp.specs.Cost.{costsAt, cheaper}
 use Rattle.asp.specs.Tables.{literalsAt}
-use Rattle.search.specs.Places.{Places, places}
 use Rattle.cores.specs.Level.{greatest, under}
 use Rattle.cores.specs.declared.level.LevelTables.{LevelTables}
-use Rattle.cores.specs.Tables.{levelOf, openedTables, Tried, triedTables, emptyTables}
+use Rattle.cores.specs.Tables.{levelOf, openedTables, Tried, triedTables}
 use Rattle.optimizer.specs.declared.state.Phase.{Phase}
 use Rattle.optimizer.specs.declared.state.Phase.the-variants.{First, Level, Optimum, Incoherent, Full}
-use Rattle.optimizer.specs.declared.state.Trail.{Trail}
-use Rattle.optimizer.specs.declared.state.Blame.{Blame}
 use Rattle.optimizer.specs.declared.state.Work.{Work}
-use Rattle.optimizer.specs.declared.state.Search.{Search}
 use Rattle.optimizer.specs.declared.state.Turn.{Turn}
 use Rattle.optimizer.specs.declared.state.Turn.the-variants.{Going, Without, Model}
-use Rattle.optimizer.specs.Source.{Levels, Source, many, entriesIn, levelAt}
-use Rattle.optimizer.specs.Turn.{Query, queryOf, blame, blamedOf, Turned, turnOf, isGoing}
-
-abbrev pub work : ℕ → LevelTables → ℕ → List ℕ → List ℕ → List ℕ → Work
-work level tables stratum lowers uppers best = record { level = level; tables = tables; stratum = stratum; lowers = lowers; uppers = uppers; best = best }
+use Rattle.optimizer.specs.Source.{Levels, many, entriesIn, levelAt}
+use Rattle.optimizer.specs.State.{work}
 
 -- the phase, and what stands still in it
 pub record Placed : Type 0 where
@@ -101,71 +92,3 @@ finishOf L Level w v ms x = finishLevel L w v ms x
 finishOf L Optimum w v ms x = placed Optimum w
 finishOf L Incoherent w v ms x = placed Incoherent w
 finishOf L Full w v ms x = placed Full w
-
--- ---- one advance
-
-abbrev pub isRunning : Phase → Bool
-isRunning First = true
-isRunning Level = true
-isRunning Optimum = false
-isRunning Incoherent = false
-isRunning Full = false
-
--- "the figure stays at 2^64 - 1"
-abbrev pub bumped : ℕ → ℕ
-bumped c = pick (ltb c 18446744073709551615) (c + 1) c
-
-abbrev pub trail : Places → Trail
-trail t = record { lits = t .lits; marks = t .marks; value = t .value; len = t .len }
-
-abbrev pub placesOf : Trail → Places
-placesOf t = places (t .lits) (t .marks) (t .value) (t .len)
-
--- "A fresh path has 1,024 empty places"
-abbrev pub freshTrail : Trail
-freshTrail = record { lits = replicate 1024 (pos 0); marks = replicate 1024 0; value = replicate 1025 0; len = 0 }
-
-abbrev pub freshBlame : Blame
-freshBlame = blame (replicate 4096 0) (replicate 4096 0) 4096
-
-abbrev pub search : Phase → ℕ → Trail → Blame → Work → Search
-search p c t b w = record { phase = p; advances = c; trail = t; blame = b; work = w }
-
--- "An ended question empties the path, and the same advance prepares the next."
-abbrev pub ended : ℕ → Placed → Search
-ended c x = search (x .phase) c freshTrail freshBlame (x .work)
-
--- the state after steps of a query that came to x, c advances made
-abbrev pub afterTurns : Levels → Phase → ℕ → Work → Turned → Search
-afterTurns L p c w x = pick (isGoing (x .turn)) (search p c (trail (x .trail)) (x .blame) w) (ended c (finishOf L p w (x .trail .value) (blamedOf (x .blame)) (x .turn)))
-
-abbrev pub finishTurn : Source → Phase → ℕ → Work → Turned → Search
-finishTurn S p c w x = afterTurns (S .levels) p c w x
-
-abbrev pub workQuery : Work → Query
-workQuery w = queryOf (w .level) (w .lowers) (w .tables) (w .stratum)
-
--- "An advance after the end does nothing and isn't counted."
-unfoldable pub advanceOf : Source → Search → Search
-advanceOf S s =
-    pick (isRunning (s .phase))
-    (finishTurn S (s .phase) (bumped (s .advances)) (s .work) (turnOf S (workQuery (s .work)) (placesOf (s .trail)) (s .blame)))
-    s
-
--- a fresh optimization: "The first question has none" of the wishes
-abbrev pub freshWork : Work
-freshWork = work 0 emptyTables 0 (replicate 8 0) (replicate 8 0) (replicate 1025 0)
-
-abbrev pub freshSearch : Search
-freshSearch = search First 0 freshTrail freshBlame freshWork
-
--- ---- runs
-
-unfoldable pub advancesOf : Source → ℕ → Search → Search
-advancesOf S zero s = s
-advancesOf S (suc k) s = advancesOf S k (advanceOf S s)
-
--- how many advances a run of a budget makes: until the status is not running or the count equals the budget
-unfoldable pub madeBy : Source → ℕ → Search → ℕ
-madeBy S zero s = 0
-madeBy S (suc k) s = pick (isRunning (s .phase)) (suc (madeBy S k (advanceOf S s))) 0

@@ -9,11 +9,11 @@ use lib.ListN.{length, getD}
 use Rattle.asp.specs.Sets.{In, pick}
 use Rattle.asp.specs.Program.{All}
 use Rattle.asp.specs.Stable.{member}
-use Rattle.search.specs.Places.{Places, Sound}
+use Rattle.search.specs.declared.trail.Places.{Places}
+use Rattle.search.specs.Places.{SoundTrail}
 use Rattle.cores.specs.Sums.{Distinct}
-use Rattle.cores.specs.Judging.{Formed}
+use Rattle.cores.specs.Judging.{FormedJudging}
 use Rattle.cores.specs.Tables.{FormedTables, Counted}
-use Rattle.cores.specs.Tables as tables
 use Rattle.cores.specs.declared.level.LevelTables.{LevelTables}
 use Rattle.optimizer.specs.declared.state.Blame.{Blame}
 use Rattle.optimizer.specs.declared.state.Work.{Work}
@@ -22,14 +22,14 @@ use Rattle.optimizer.specs.declared.state.Turn.{Turn}
 use Rattle.optimizer.specs.declared.state.Turn.the-variants.{Going, Without}
 use Rattle.optimizer.specs.declared.turn.Turning.{Turning}
 use Rattle.optimizer.specs.Source.{Levels, many, Source, FormedLevels, FormedSource}
-use Rattle.optimizer.specs.Turn.{Query, blamedOf}
-use Rattle.optimizer.specs.Finish.{placesOf, workQuery}
+use Rattle.optimizer.specs.Turn.{QueryTables, blamedOf}
+use Rattle.optimizer.specs.Advance.{workQuery}
 
 -- how many soft literals the level has
-abbrev pub softs : Query → ℕ
+abbrev pub softs : QueryTables → ℕ
 softs q = length (q .judging .literals)
 
-pub record ReadyQuery (S : Source) (q : Query) : Type 0 where
+pub record ReadyQuery (S : Source) (q : QueryTables) : Type 0 where
   pub source : FormedSource S
   pub level : q .level ≤ many (S .levels)
   pub lowers-len : length (q .lowers) ≡ 8
@@ -39,11 +39,11 @@ pub record ReadyQuery (S : Source) (q : Query) : Type 0 where
   pub places-apart : (i j : ℕ) → i < length (q .places) → j < length (q .places) → getD (q .places) i 0 ≡ getD (q .places) j 0 → i ≡ j
   pub places-in : All (λ m. m < softs q) (q .places)
   pub assumed-in : All (λ m. m < softs q) (q .assumed)
-  pub judging : Formed (q .judging)
+  pub judging : FormedJudging (q .judging)
   pub few : softs q ≤ 4096
 
 -- what is blamed: places of soft literals, none twice; and the flags say which of the entries' are
-pub record GoodBlame (q : Query) (b : Blame) : Type 0 where
+pub record GoodBlame (q : QueryTables) (b : Blame) : Type 0 where
   pub flags-len : length (b .flags) ≡ 4096
   pub core-len : length (b .core) ≡ 4096
   pub from-in : b .from ≤ 4096
@@ -64,16 +64,6 @@ pub record ReadyWork (L : Levels) (w : Work) : Type 0 where
   pub tables : FormedTables (w .tables)
   pub lowers-len : length (w .lowers) ≡ 8
   pub uppers-len : length (w .uppers) ≡ 8
-
-pub record ReadySearch (S : Source) (s : Search) : Type 0 where
-  pub work : ReadyWork (S .levels) (s .work)
-  pub query : ReadyQuery S (workQuery (s .work))
-  pub blame : GoodBlame (workQuery (s .work)) (s .blame)
-  pub trail : Sound (S .n) (placesOf (s .trail))
-
--- the level's tables are in shape, and the core number falls
-abbrev pub SoundTables : LevelTables → Type 0
-SoundTables t = tables.Sound t
 
 -- a core can be recorded: its places are in the table, none of it is lighter than the stratum, and the bound stays in range
 pub record ReadyCore (w : Work) (ms : List ℕ) : Type 0 where

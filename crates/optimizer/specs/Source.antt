@@ -8,6 +8,7 @@ use Rattle.asp.specs.Cost.{level}
 use Rattle.asp.specs.Tables.{span, rulesOf, entriesOf, Formed}
 use Rattle.asp.specs.Paying.{EntriesFormed}
 use Rattle.search.specs.Scan.{Rules, rules}
+use Rattle.indexing.specs.Sorting.{Readied}
 
 -- the priorities of the levels, highest first, and the entries
 pub record Levels : Type 0 where
@@ -62,3 +63,4 @@ pub record FormedSource (S : Source) : Type 0 where
   pub rules : Formed (S .n) (S .pool) (S .rows) (S .rulecount)
   pub levels : FormedLevels (S .levels)
   pub atoms : All (λ (e : Entry). LiteralIn (S .n) (e .literal)) (entriesIn (S .levels))
+  pub readied : Readied (ruleTables S)

@@ -9,13 +9,14 @@ use lib.ListN.{length, getD, set, take, drop}
 use Rattle.asp.specs.Sets.{Set, setOf, pick}
 use Rattle.asp.specs.Stable.{isStable, member}
 use Rattle.asp.specs.Cost.{cost}
-use Rattle.search.specs.Places.{Places, places, pushOf, backOf}
-use Rattle.search.specs.Soft.{Assumed, assumed}
+use Rattle.search.specs.declared.trail.Places.{Places}
+use Rattle.search.specs.Places.{places, pushOf, backOf}
+use Rattle.search.specs.Soft.{AssumedEntries, assumedEntries}
 use Rattle.search.specs.Step.{testOf}
 use Rattle.search.specs.declared.step.Tested.{Tested}
 use Rattle.search.specs.declared.step.Tested.the-variants.{RuleBroken, Full, SoftViolated, Open}
 use Rattle.cores.specs.Level.{assumedFrom}
-use Rattle.cores.specs.Judging.{Judging, judging, violatedIn, firstViolated}
+use Rattle.cores.specs.Judging.{Judging, judging, violatedAt, firstViolated}
 use Rattle.cores.specs.Columns.{entriesAmong}
 use Rattle.cores.specs.declared.judge.Judged.{Judged}
 use Rattle.cores.specs.declared.judge.Judged.the-variants.{Met}
@@ -34,7 +35,7 @@ use Rattle.optimizer.specs.Source.{Source, rulesIn, ruleTables, levelAt}
 
 -- the settled levels and their costs; the literals that the assumed soft literals of entries wish for, and their places; the places of all that are assumed; and the
 -- tables by which they are judged
-pub record Query : Type 0 where
+pub record QueryTables : Type 0 where
   pub level : ℕ
   pub lowers : List ℕ
   pub wished : List ℤ
@@ -42,8 +43,8 @@ pub record Query : Type 0 where
   pub assumed : List ℕ
   pub judging : Judging
 
-abbrev pub query : ℕ → List ℕ → List ℤ → List ℕ → List ℕ → Judging → Query
-query level lowers wished ps as′ j = record { level = level; lowers = lowers; wished = wished; places = ps; assumed = as′; judging = j }
+abbrev pub queryTables : ℕ → List ℕ → List ℤ → List ℕ → List ℕ → Judging → QueryTables
+queryTables level lowers wished ps as′ j = record { level = level; lowers = lowers; wished = wished; places = ps; assumed = as′; judging = j }
 
 -- the tables of the level in work, as far as they are filled
 abbrev pub judgingOf : LevelTables → Judging
@@ -63,13 +64,13 @@ entryPlaces t s = entriesAmong (judgingOf t .cores) (assumedIn t s)
 abbrev pub wishedIn : LevelTables → ℕ → List ℤ
 wishedIn t s = map (λ (p : ℕ). negℤ (getD (judgingOf t .literals) p (pos 0))) (entryPlaces t s)
 
-unfoldable pub queryOf : ℕ → List ℕ → LevelTables → ℕ → Query
-queryOf level lowers t s = query level lowers (wishedIn t s) (entryPlaces t s) (assumedIn t s) (judgingOf t)
+unfoldable pub queryOf : ℕ → List ℕ → LevelTables → ℕ → QueryTables
+queryOf level lowers t s = queryTables level lowers (wishedIn t s) (entryPlaces t s) (assumedIn t s) (judgingOf t)
 
 -- the same from the columns of the tables: j, and the remaining weights
-abbrev pub queryBy : ℕ → List ℕ → Judging → List ℕ → ℕ → Query
+abbrev pub queryBy : ℕ → List ℕ → Judging → List ℕ → ℕ → QueryTables
 queryBy level lowers j rests s =
-    query level lowers (map (λ (p : ℕ). negℤ (getD (j .literals) p (pos 0))) (entriesAmong (j .cores) (assumedFrom s 0 rests)))
+    queryTables level lowers (map (λ (p : ℕ). negℤ (getD (j .literals) p (pos 0))) (entriesAmong (j .cores) (assumedFrom s 0 rests)))
     (entriesAmong (j .cores) (assumedFrom s 0 rests)) (assumedFrom s 0 rests) j
 
 -- ---- what is blamed
@@ -77,12 +78,12 @@ queryBy level lowers j rests s =
 abbrev pub blamedOf : Blame → List ℕ
 blamedOf b = drop (b .from) (b .core)
 
-abbrev pub blame : List ℕ → List ℕ → ℕ → Blame
-blame fs core from = record { flags = fs; core = core; from = from }
+abbrev pub blameTables : List ℕ → List ℕ → ℕ → Blame
+blameTables fs core from = record { flags = fs; core = core; from = from }
 
 -- the soft literal of an entry, by its place i among those that the query assumes
 abbrev pub blameEntry : List ℕ → ℕ → Blame → Blame
-blameEntry ps i b = pick (eqb (getD (b .flags) i 0) 1) b (blame (set (b .flags) i 1) (set (b .core) (b .from - 1) (getD ps i 0)) (b .from - 1))
+blameEntry ps i b = pick (eqb (getD (b .flags) i 0) 1) b (blameTables (set (b .flags) i 1) (set (b .core) (b .from - 1) (getD ps i 0)) (b .from - 1))
 
 -- the flag of each of the places that is p, from place i on
 unfoldable pub flagged : ℕ → ℕ → List ℕ → List ℕ → List ℕ
@@ -91,7 +92,7 @@ flagged p i (q ∷ ps) fs = flagged p (i + 1) ps (pick (eqb q p) (set fs i 1) fs
 
 -- any soft literal, by its place p
 abbrev pub blamePlace : List ℕ → ℕ → Blame → Blame
-blamePlace ps p b = pick (member p (blamedOf b)) b (blame (flagged p 0 ps (b .flags)) (set (b .core) (b .from - 1) p) (b .from - 1))
+blamePlace ps p b = pick (member p (blamedOf b)) b (blameTables (flagged p 0 ps (b .flags)) (set (b .core) (b .from - 1) p) (b .from - 1))
 
 -- ---- a full trail
 
@@ -109,8 +110,8 @@ softOrWanted Met = Wanted
 softOrWanted (judged.Violated p) = Violated p
 
 -- ".. and meets certain wishes": one that is blamed already comes first
-abbrev pub judgeFull : Source → Query → List ℕ → List ℕ → Judgement
-judgeFull S q ms v = pick (inClass S (q .level) (q .lowers) (setOf v)) (softOrWanted (firstViolated (violatedIn (q .judging) (setOf v)) (ms ++ q .assumed))) Dead
+abbrev pub judgeFull : Source → QueryTables → List ℕ → List ℕ → Judgement
+judgeFull S q ms v = pick (inClass S (q .level) (q .lowers) (setOf v)) (softOrWanted (firstViolated (violatedAt (q .judging) (setOf v)) (ms ++ q .assumed))) Dead
 
 -- ---- the step
 
@@ -126,22 +127,22 @@ turned x t b = record { turn = x; trail = t; blame = b }
 abbrev pub backed : Places → Blame → Turned
 backed t b = pick (eqb (t .len) 0) (turned Without t b) (turned Going t b)
 
-abbrev pub judgedTurn : Query → Places → Blame → Judgement → Turned
+abbrev pub judgedTurn : QueryTables → Places → Blame → Judgement → Turned
 judgedTurn q t b Wanted = turned Model t b
 judgedTurn q t b Dead = backed (backOf t) b
 judgedTurn q t b (Violated p) = backed (backOf t) (blamePlace (q .places) p b)
 
-abbrev pub turnBy : Source → Query → Places → Blame → Tested → Turned
+abbrev pub turnBy : Source → QueryTables → Places → Blame → Tested → Turned
 turnBy S q t b (RuleBroken r) = backed (backOf t) b
 turnBy S q t b (SoftViolated i) = backed (backOf t) (blameEntry (q .places) i b)
 turnBy S q t b (Open l) = turned Going (pushOf l t) b
 turnBy S q t b Full = judgedTurn q t b (judgeFull S q (blamedOf b) (t .value))
 
-abbrev pub queryTables : Query → Blame → Assumed
-queryTables q b = assumed (q .wished) (b .flags) (length (q .wished))
+abbrev pub assumedBy : QueryTables → Blame → AssumedEntries
+assumedBy q b = assumedEntries (q .wished) (b .flags) (length (q .wished))
 
-unfoldable pub turnOf : Source → Query → Places → Blame → Turned
-turnOf S q t b = turnBy S q t b (testOf (ruleTables S) (S .n) (queryTables q b) (t .value) (t .len))
+unfoldable pub turnOf : Source → QueryTables → Places → Blame → Turned
+turnOf S q t b = turnBy S q t b (testOf (ruleTables S) (S .n) (assumedBy q b) (t .value) (t .len))
 
 -- ---- steps until the query ends or k are made
 
@@ -164,6 +165,6 @@ oneMore r = turns (r .turned) (suc (r .made))
 abbrev pub goOn : Turned → Turns → Turns
 goOn x r = pick (isGoing (x .turn)) r (turns x 0)
 
-unfoldable pub turnsOf : Source → Query → ℕ → Places → Blame → Turns
+unfoldable pub turnsOf : Source → QueryTables → ℕ → Places → Blame → Turns
 turnsOf S q zero t b = turns (turned Going t b) 0
 turnsOf S q (suc k) t b = oneMore (goOn (turnOf S q t b) (turnsOf S q k (turnOf S q t b .trail) (turnOf S q t b .blame)))

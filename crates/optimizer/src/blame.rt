@@ -8,7 +8,7 @@ ghost use lib.Dec.{eqb};
 ghost use Rattle.asp.specs.Sets.{pick};
 ghost use Rattle.asp.specs.Program.{All};
 ghost use Rattle.asp.specs.Stable.{member};
-ghost use Rattle.optimizer.specs.Turn.{blame, blameEntry, blamePlace, flagged};
+ghost use Rattle.optimizer.specs.Turn.{blameTables, blameEntry, blamePlace, flagged};
 
 // What is blamed, newest first.
 pub fn blamed(core: &[u16], from: usize) -> &[u16]
@@ -37,7 +37,7 @@ pub fn blame_entry(
     from: usize,
 ) -> usize
     requires { ⌜ (i < length (now places)) × (getD (now places) i 0 < 4096) × (i < 4096) × (from ≤ 4096) × (length (now flags) ≡ 4096) × (length (now core) ≡ 4096) × ((getD (now flags) i 0 ≡ 1 → ⊥) → 1 ≤ from) ⌝ }
-    ensures { λ r. ⌜ blame (now (flags .exit)) (now (core .exit)) r ≡ blameEntry (now (places .entry)) i (blame (now (flags .entry)) (now (core .entry)) from) ⌝ }
+    ensures { λ r. ⌜ blameTables (now (flags .exit)) (now (core .exit)) r ≡ blameEntry (now (places .entry)) i (blameTables (now (flags .entry)) (now (core .entry)) from) ⌝ }
 {
     if flags[i] == 1 {
         return from;
@@ -98,7 +98,7 @@ pub fn blame_place(
     from: usize,
 ) -> usize
     requires { ⌜ (p < 4096) × (from ≤ 4096) × (length (now places) ≤ 4096) × (length (now flags) ≡ 4096) × (length (now core) ≡ 4096) × ((member p (drop from (now core)) ≡ false) → 1 ≤ from) ⌝ }
-    ensures { λ r. ⌜ blame (now (flags .exit)) (now (core .exit)) r ≡ blamePlace (now (places .entry)) p (blame (now (flags .entry)) (now (core .entry)) from) ⌝ }
+    ensures { λ r. ⌜ blameTables (now (flags .exit)) (now (core .exit)) r ≡ blamePlace (now (places .entry)) p (blameTables (now (flags .entry)) (now (core .entry)) from) ⌝ }
 {
     if is_among(core, from, p) {
         return from;

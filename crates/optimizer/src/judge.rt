@@ -1,7 +1,8 @@
 // A full trail: whether its set is one that the query seeks.
 use crate::state::Judgement;
-use asp::stable::Stability;
 use cores::judge::Judged;
+use counting::tally::Marks;
+use indexing::leaf;
 ghost use mathlib.Core.Path.{_≡_};
 ghost use mathlib.Core.Bool.{_&&_};
 ghost use mathlib.Core.List.{List, _++_};
@@ -15,9 +16,12 @@ ghost use Rattle.asp.specs.Stable.{isStable};
 ghost use Rattle.asp.specs.Cost.{cost, level};
 ghost use Rattle.asp.specs.Tables.{rulesOf, entriesOf, Formed};
 ghost use Rattle.asp.specs.Paying.{EntriesFormed};
+ghost use Rattle.search.specs.Scan.{rules};
+ghost use Rattle.counting.specs.Tally.{index, tally};
+ghost use Rattle.indexing.specs.Leaf.{Leaf};
 ghost use Rattle.cores.specs.Judging as judged;
 ghost use Rattle.optimizer.specs.Source.{levelTables, source};
-ghost use Rattle.optimizer.specs.Turn.{query, settledFrom, inClass, softOrWanted, judgeFull};
+ghost use Rattle.optimizer.specs.Turn.{queryTables, settledFrom, inClass, softOrWanted, judgeFull};
 
 // Whether the set costs on level l what that is settled at.
 fn is_settled_at<'a>(
@@ -69,24 +73,6 @@ pub fn is_settled<'a>(
     true
 }
 
-fn is_stable<'a>(
-    pool: &'a [i32],
-    rows: &'a [u16],
-    rulecount: usize,
-    n: usize,
-    value: &'a [u8; 1025],
-) -> bool
-    requires { ⌜ Formed n (now pool) (now rows) rulecount × (length (now value) ≡ 1025) ⌝ }
-    ensures { λ r. ⌜ r ≡ isStable n (rulesOf (now (pool .entry)) (now (rows .entry)) rulecount) (setOf (now (value .entry))) ⌝ }
-{
-    let s = asp::stable::is_stable(pool, rows, rulecount, n, value);
-    match s {
-        Stability::Stable => true,
-        Stability::Violated => false,
-        Stability::NotLeast => false,
-    }
-}
-
 // What the first violated soft literal makes of a full trail.
 fn soft_or_wanted(j: Judged) -> Judgement
     ensures { λ r. ⌜ r ≡ softOrWanted j ⌝ }
@@ -109,13 +95,32 @@ fn in_class<'a>(
     literals: &'a [i32],
     weights: &'a [u32],
     entrycount: usize,
+    starts: &'a [u16],
+    lists: &'a [u16],
+    headstarts: &'a [u16],
+    headlists: &'a [u16],
     value: &'a [u8; 1025],
+    key: &'a [u16; 2048],
+    m: Marks,
     lowers: &'a [u64; 8],
 ) -> bool
     requires { ⌜ Formed n (now pool) (now rows) rulecount × (level ≤ length (now levels)) × (level ≤ 8) × EntriesFormed (now priorities) (now literals) (now weights) entrycount × (length (now value) ≡ 1025) × (length (now lowers) ≡ 8) ⌝ }
+    requires { ⌜ Leaf (rules (now pool) (now rows) rulecount) n (index (now starts) (now lists)) (index (now headstarts) (now headlists)) (now value) (tally (now key) m) ⌝ }
     ensures { λ r. ⌜ (r ≡ inClass (source n (now (pool .entry)) (now (rows .entry)) rulecount (levelTables (now (levels .entry)) (now (priorities .entry)) (now (literals .entry)) (now (weights .entry)) entrycount)) level (now (lowers .entry)) (setOf (now (value .entry)))) ⌝ }
 {
-    if is_stable(pool, rows, rulecount, n, value) {
+    if leaf::is_stable(
+        pool,
+        rows,
+        rulecount,
+        n,
+        starts,
+        lists,
+        headstarts,
+        headlists,
+        value,
+        key,
+        m,
+    ) {
         return is_settled(
             levels,
             level,
@@ -149,13 +154,20 @@ pub fn judge_full<'a>(
     indices: &'a [u16],
     ends: &'a [u16],
     members: &'a [u16],
+    starts: &'a [u16],
+    lists: &'a [u16],
+    headstarts: &'a [u16],
+    headlists: &'a [u16],
     blamed: &'a [u16],
     value: &'a [u8; 1025],
+    key: &'a [u16; 2048],
+    m: Marks,
 ) -> Judgement
     requires { ⌜ Formed n (now pool) (now rows) rulecount × (level ≤ length (now levels)) × (level ≤ 8) × EntriesFormed (now priorities) (now literals) (now weights) entrycount × (length (now value) ≡ 1025) × (length (now lowers) ≡ 8) ⌝ }
-    requires { ⌜ judged.Formed (judged.judging (now softs) (now cores) (now indices) (now ends) (now members)) ⌝ }
+    requires { ⌜ judged.FormedJudging (judged.judging (now softs) (now cores) (now indices) (now ends) (now members)) ⌝ }
     requires { ⌜ All (λ m. m < length (now softs)) (now assumed) × All (λ m. m < length (now softs)) (now blamed) ⌝ }
-    ensures { λ r. ⌜ ((ws : List ℤ) (ps : List ℕ) → r ≡ judgeFull (source n (now (pool .entry)) (now (rows .entry)) rulecount (levelTables (now (levels .entry)) (now (priorities .entry)) (now (literals .entry)) (now (weights .entry)) entrycount)) (query level (now (lowers .entry)) ws ps (now (assumed .entry)) (judged.judging (now (softs .entry)) (now (cores .entry)) (now (indices .entry)) (now (ends .entry)) (now (members .entry)))) (now (blamed .entry)) (now (value .entry))) ⌝ }
+    requires { ⌜ Leaf (rules (now pool) (now rows) rulecount) n (index (now starts) (now lists)) (index (now headstarts) (now headlists)) (now value) (tally (now key) m) ⌝ }
+    ensures { λ r. ⌜ ((ws : List ℤ) (ps : List ℕ) → r ≡ judgeFull (source n (now (pool .entry)) (now (rows .entry)) rulecount (levelTables (now (levels .entry)) (now (priorities .entry)) (now (literals .entry)) (now (weights .entry)) entrycount)) (queryTables level (now (lowers .entry)) ws ps (now (assumed .entry)) (judged.judging (now (softs .entry)) (now (cores .entry)) (now (indices .entry)) (now (ends .entry)) (now (members .entry)))) (now (blamed .entry)) (now (value .entry))) ⌝ }
 {
     if in_class(
         n,
@@ -168,7 +180,13 @@ pub fn judge_full<'a>(
         literals,
         weights,
         entrycount,
+        starts,
+        lists,
+        headstarts,
+        headlists,
         value,
+        key,
+        m,
         lowers,
     ) {
         return soft_or_wanted(cores::judge::judge_both(

@@ -1,25 +1,27 @@
 // Steps of one query: the level's tables are unpacked into columns once, and lent to every step.
 use crate::state::Blame;
-use crate::state::Trail;
 use crate::state::Turn;
 use crate::state::Work;
 use crate::turn;
 use cores::query;
 use cores::recording;
+use indexing::machine;
+use search::trail::Places;
 ghost use mathlib.Core.Path.{_≡_};
 ghost use Prim.Native.Nat.{ℕ, _≤_, _<_};
 ghost use lib.ListN.{length};
-ghost use Rattle.search.specs.Places.{Sound};
+ghost use Rattle.search.specs.Places.{SoundTrail};
+ghost use Rattle.cores.specs.Tables.{SoundTables};
 ghost use Rattle.cores.specs.Judging.{judging};
 ghost use Rattle.optimizer.specs.Source.{levelTables, source};
-ghost use Rattle.optimizer.specs.Turn.{query, queryBy, turned, turns, turnsOf};
-ghost use Rattle.optimizer.specs.Finish.{placesOf, workQuery};
-ghost use Rattle.optimizer.specs.Ready.{ReadyQuery, GoodBlame, SoundTables};
+ghost use Rattle.optimizer.specs.Turn.{queryTables, queryBy, turned, turns, turnsOf};
+ghost use Rattle.optimizer.specs.Advance.{workQuery};
+ghost use Rattle.optimizer.specs.Ready.{ReadyQuery, GoodBlame};
 
 // What some steps came to, the trail and the blame after them, and how many they were.
 pub struct Ran {
     pub turn: Turn,
-    pub trail: Trail,
+    pub trail: Places,
     pub blame: Blame,
     pub made: u32,
 }
@@ -45,20 +47,36 @@ fn run_lent<'a>(
     indices: &'a [u16],
     ends: &'a [u16],
     members: &'a [u16],
-    trail: Trail,
+    trail: Places,
     blame: Blame,
     budget: u32,
 ) -> Ran
-    requires { ⌜ ReadyQuery (source n (now pool) (now rows) rulecount (levelTables (now levels) (now priorities) (now literals) (now weights) entrycount)) (query level (now lowers) (now wished) (now spots) (now assumed) (judging (now softs) (now cores) (now indices) (now ends) (now members))) ⌝ }
-    requires { ⌜ GoodBlame (query level (now lowers) (now wished) (now spots) (now assumed) (judging (now softs) (now cores) (now indices) (now ends) (now members))) blame ⌝ }
-    requires { ⌜ Sound n (placesOf trail) ⌝ }
-    ensures { λ r. ⌜ turns (turned (r .turn) (placesOf (r .trail)) (r .blame)) (r .made) ≡ turnsOf (source n (now (pool .entry)) (now (rows .entry)) rulecount (levelTables (now (levels .entry)) (now (priorities .entry)) (now (literals .entry)) (now (weights .entry)) entrycount)) (query level (now (lowers .entry)) (now (wished .entry)) (now (spots .entry)) (now (assumed .entry)) (judging (now (softs .entry)) (now (cores .entry)) (now (indices .entry)) (now (ends .entry)) (now (members .entry)))) budget (placesOf trail) blame ⌝ }
+    requires { ⌜ ReadyQuery (source n (now pool) (now rows) rulecount (levelTables (now levels) (now priorities) (now literals) (now weights) entrycount)) (queryTables level (now lowers) (now wished) (now spots) (now assumed) (judging (now softs) (now cores) (now indices) (now ends) (now members))) ⌝ }
+    requires { ⌜ GoodBlame (queryTables level (now lowers) (now wished) (now spots) (now assumed) (judging (now softs) (now cores) (now indices) (now ends) (now members))) blame ⌝ }
+    requires { ⌜ SoundTrail n trail ⌝ }
+    ensures { λ r. ⌜ turns (turned (r .turn) (r .trail) (r .blame)) (r .made) ≡ turnsOf (source n (now (pool .entry)) (now (rows .entry)) rulecount (levelTables (now (levels .entry)) (now (priorities .entry)) (now (literals .entry)) (now (weights .entry)) entrycount)) (queryTables level (now (lowers .entry)) (now (wished .entry)) (now (spots .entry)) (now (assumed .entry)) (judging (now (softs .entry)) (now (cores .entry)) (now (indices .entry)) (now (ends .entry)) (now (members .entry)))) budget trail blame ⌝ }
 {
     let mut lits = trail.lits;
     let mut marks = trail.marks;
     let mut value = trail.value;
     let mut flags = blame.flags;
     let mut core = blame.core;
+    let mut starts = [0u16; 2051];
+    let mut lists = [0u16; 16385];
+    let mut headstarts = [0u16; 2051];
+    let mut headlists = [0u16; 16385];
+    let mut key = [0u16; 2048];
+    let m = machine::prepare(
+        pool,
+        rows,
+        rulecount,
+        &value,
+        &mut starts,
+        &mut lists,
+        &mut headstarts,
+        &mut headlists,
+        &mut key,
+    );
     let r = turn::turns(
         n,
         pool,
@@ -79,13 +97,19 @@ fn run_lent<'a>(
         indices,
         ends,
         members,
+        &starts,
+        &lists,
+        &headstarts,
+        &headlists,
         &mut lits,
         &mut marks,
         &mut value,
+        &mut key,
         &mut flags,
         &mut core,
         trail.len,
         blame.from,
+        m,
         budget,
     );
     let made = r.made;
@@ -93,7 +117,7 @@ fn run_lent<'a>(
     let turn = t.turn;
     Ran {
         turn: turn,
-        trail: Trail {
+        trail: Places {
             lits: lits,
             marks: marks,
             value: value,
@@ -128,15 +152,15 @@ fn run_columns<'a>(
     rests: &'a [u32],
     ends: &'a [u16],
     members: &'a [u16],
-    trail: Trail,
+    trail: Places,
     blame: Blame,
     budget: u32,
 ) -> Ran
     requires { ⌜ ReadyQuery (source n (now pool) (now rows) rulecount (levelTables (now levels) (now priorities) (now literals) (now weights) entrycount)) (queryBy level (now lowers) (judging (now softs) (now cores) (now indices) (now ends) (now members)) (now rests) stratum) ⌝ }
     requires { ⌜ GoodBlame (queryBy level (now lowers) (judging (now softs) (now cores) (now indices) (now ends) (now members)) (now rests) stratum) blame ⌝ }
-    requires { ⌜ Sound n (placesOf trail) ⌝ }
+    requires { ⌜ SoundTrail n trail ⌝ }
     requires { ⌜ (length (now rests) ≤ 4096) × (length (now cores) ≡ length (now softs)) ⌝ }
-    ensures { λ r. ⌜ turns (turned (r .turn) (placesOf (r .trail)) (r .blame)) (r .made) ≡ turnsOf (source n (now (pool .entry)) (now (rows .entry)) rulecount (levelTables (now (levels .entry)) (now (priorities .entry)) (now (literals .entry)) (now (weights .entry)) entrycount)) (queryBy level (now (lowers .entry)) (judging (now (softs .entry)) (now (cores .entry)) (now (indices .entry)) (now (ends .entry)) (now (members .entry))) (now (rests .entry)) stratum) budget (placesOf trail) blame ⌝ }
+    ensures { λ r. ⌜ turns (turned (r .turn) (r .trail) (r .blame)) (r .made) ≡ turnsOf (source n (now (pool .entry)) (now (rows .entry)) rulecount (levelTables (now (levels .entry)) (now (priorities .entry)) (now (literals .entry)) (now (weights .entry)) entrycount)) (queryBy level (now (lowers .entry)) (judging (now (softs .entry)) (now (cores .entry)) (now (indices .entry)) (now (ends .entry)) (now (members .entry))) (now (rests .entry)) stratum) budget trail blame ⌝ }
 {
     let mut assumed = [0u16; 4096];
     let mut spots = [0u16; 4096];
@@ -181,15 +205,15 @@ pub fn run_query<'a>(
     weights: &'a [u32],
     entrycount: usize,
     w: Work,
-    trail: Trail,
+    trail: Places,
     blame: Blame,
     budget: u32,
 ) -> Ran
     requires { ⌜ ReadyQuery (source n (now pool) (now rows) rulecount (levelTables (now levels) (now priorities) (now literals) (now weights) entrycount)) (workQuery w) ⌝ }
     requires { ⌜ GoodBlame (workQuery w) blame ⌝ }
-    requires { ⌜ Sound n (placesOf trail) ⌝ }
+    requires { ⌜ SoundTrail n trail ⌝ }
     requires { ⌜ SoundTables (w .tables) ⌝ }
-    ensures { λ r. ⌜ turns (turned (r .turn) (placesOf (r .trail)) (r .blame)) (r .made) ≡ turnsOf (source n (now (pool .entry)) (now (rows .entry)) rulecount (levelTables (now (levels .entry)) (now (priorities .entry)) (now (literals .entry)) (now (weights .entry)) entrycount)) (workQuery w) budget (placesOf trail) blame ⌝ }
+    ensures { λ r. ⌜ turns (turned (r .turn) (r .trail) (r .blame)) (r .made) ≡ turnsOf (source n (now (pool .entry)) (now (rows .entry)) rulecount (levelTables (now (levels .entry)) (now (priorities .entry)) (now (literals .entry)) (now (weights .entry)) entrycount)) (workQuery w) budget trail blame ⌝ }
 {
     let mut softs = [0i32; 4096];
     let mut cores = [0u16; 4096];

@@ -6,7 +6,6 @@ use crate::query::Ran;
 use crate::state::Blame;
 use crate::state::Phase;
 use crate::state::Search;
-use crate::state::Trail;
 use crate::state::Turn;
 use crate::state::Work;
 ghost use mathlib.Core.Path.{_≡_};
@@ -15,9 +14,12 @@ ghost use lib.ListN.{length};
 ghost use Rattle.cores.specs.Tables.{FormedTables};
 ghost use Rattle.optimizer.specs.Source.{levelTables, source, FormedLevels};
 ghost use Rattle.optimizer.specs.Turn.{turned, blamedOf};
-ghost use Rattle.optimizer.specs.Finish.{placesOf, freshTrail, freshBlame, ended, finishOf, afterTurns, isRunning, advanceOf, freshSearch};
+ghost use Rattle.search.specs.Places.{freshPlaces};
+ghost use Rattle.optimizer.specs.State.{freshBlame, isRunning, freshSearch};
+ghost use Rattle.optimizer.specs.Finish.{finishOf};
+ghost use Rattle.optimizer.specs.Advance.{endedQuery, afterTurns, advanceOf};
 ghost use Rattle.optimizer.specs.Ready.{ReadyCore};
-ghost use Rattle.optimizer.specs.Run.{bumpedBy, advances, queryRun, ReadyRun, Reached, runOf};
+ghost use Rattle.optimizer.specs.Run.{bumpedBy, afterRun, queryRun, ReadyRun, Reached, runOf};
 
 // "the figure stays at 2^64 - 1"
 fn counted(c: u64, made: u32) -> u64
@@ -28,18 +30,6 @@ fn counted(c: u64, made: u32) -> u64
         return 18446744073709551615;
     }
     c + k
-}
-
-// "A fresh path has 1,024 empty places"
-fn fresh_trail() -> Trail
-    ensures { λ r. ⌜ r ≡ freshTrail ⌝ }
-{
-    Trail {
-        lits: [0; 1024],
-        marks: [0; 1024],
-        value: [0; 1025],
-        len: 0,
-    }
 }
 
 fn fresh_blame() -> Blame
@@ -67,7 +57,7 @@ fn end_query<'a>(
     turn: Turn,
 ) -> Search
     requires { ⌜ FormedLevels (levelTables (now levels) (now priorities) (now literals) (now weights) entrycount) × FormedTables (w .tables) × (phase ≡ Phase.Level → w .level < length (now levels)) × (phase ≡ Phase.Level → turn ≡ Turn.Without → ReadyCore w (now core)) ⌝ }
-    ensures { λ r. ⌜ r ≡ ended advances (finishOf (levelTables (now (levels .entry)) (now (priorities .entry)) (now (literals .entry)) (now (weights .entry)) entrycount) phase w value (now (core .entry)) turn) ⌝ }
+    ensures { λ r. ⌜ r ≡ endedQuery advances (finishOf (levelTables (now (levels .entry)) (now (priorities .entry)) (now (literals .entry)) (now (weights .entry)) entrycount) phase w value (now (core .entry)) turn) ⌝ }
 {
     let p = finish::finish(
         levels,
@@ -86,7 +76,7 @@ fn end_query<'a>(
     Search {
         phase: next,
         advances: advances,
-        trail: fresh_trail(),
+        trail: search::trail::fresh(),
         blame: fresh_blame(),
         work: work,
     }
@@ -105,7 +95,7 @@ fn after<'a>(
     r: Ran,
 ) -> Search
     requires { ⌜ FormedLevels (levelTables (now levels) (now priorities) (now literals) (now weights) entrycount) × FormedTables (w .tables) × (phase ≡ Phase.Level → w .level < length (now levels)) × (phase ≡ Phase.Level → r .turn ≡ Turn.Without → ReadyCore w (blamedOf (r .blame))) × (r .blame .from ≤ length (r .blame .core)) × (length (r .blame .core) ≡ 4096) ⌝ }
-    ensures { λ s. ⌜ s ≡ afterTurns (levelTables (now (levels .entry)) (now (priorities .entry)) (now (literals .entry)) (now (weights .entry)) entrycount) phase advances w (turned (r .turn) (placesOf (r .trail)) (r .blame)) ⌝ }
+    ensures { λ s. ⌜ s ≡ afterTurns (levelTables (now (levels .entry)) (now (priorities .entry)) (now (literals .entry)) (now (weights .entry)) entrycount) phase advances w (turned (r .turn) (r .trail) (r .blame)) ⌝ }
 {
     let turn = r.turn;
     let trail = r.trail;
@@ -170,7 +160,7 @@ pub fn run_steps<'a>(
     budget: u32,
 ) -> Advanced
     requires { ⌜ ReadyRun (source n (now pool) (now rows) rulecount (levelTables (now levels) (now priorities) (now literals) (now weights) entrycount)) budget s ⌝ }
-    ensures { λ r. ⌜ advances (r .search) (r .made) ≡ queryRun (source n (now (pool .entry)) (now (rows .entry)) rulecount (levelTables (now (levels .entry)) (now (priorities .entry)) (now (literals .entry)) (now (weights .entry)) entrycount)) budget s ⌝ }
+    ensures { λ r. ⌜ afterRun (r .search) (r .made) ≡ queryRun (source n (now (pool .entry)) (now (rows .entry)) rulecount (levelTables (now (levels .entry)) (now (priorities .entry)) (now (literals .entry)) (now (weights .entry)) entrycount)) budget s ⌝ }
 {
     let w = s.work;
     let trail = s.trail;
@@ -237,7 +227,7 @@ pub fn run<'a>(
     budget: u32,
 ) -> Advanced
     requires { ⌜ Reached (source n (now pool) (now rows) rulecount (levelTables (now levels) (now priorities) (now literals) (now weights) entrycount)) start ⌝ }
-    ensures { λ r. ⌜ advances (r .search) (r .made) ≡ runOf (source n (now (pool .entry)) (now (rows .entry)) rulecount (levelTables (now (levels .entry)) (now (priorities .entry)) (now (literals .entry)) (now (weights .entry)) entrycount)) budget start ⌝ }
+    ensures { λ r. ⌜ afterRun (r .search) (r .made) ≡ runOf (source n (now (pool .entry)) (now (rows .entry)) rulecount (levelTables (now (levels .entry)) (now (priorities .entry)) (now (literals .entry)) (now (weights .entry)) entrycount)) budget start ⌝ }
 {
     let mut s = start;
     let mut made: u32 = 0;
@@ -314,7 +304,7 @@ pub fn fresh() -> Search
     Search {
         phase: Phase::First,
         advances: 0,
-        trail: fresh_trail(),
+        trail: search::trail::fresh(),
         blame: fresh_blame(),
         work: Work {
             level: 0,

@@ -1,5 +1,6 @@
 // The state of one optimization.
 use cores::level::LevelTables;
+use search::trail::Places;
 
 // Where it stands: in the first query, on a level, or ended.
 pub enum Phase {
@@ -8,14 +9,6 @@ pub enum Phase {
     Optimum,
     Incoherent,
     Full,
-}
-
-// The trail (document 01's path): see `Places` of search.
-pub struct Trail {
-    pub lits: [i32; 1024],
-    pub marks: [u8; 1024],
-    pub value: [u8; 1025],
-    pub len: usize,
 }
 
 // What the query has blamed: the places of soft literals, newest first, in `core` from `from` on; and, by the order in which the query assumes the soft literals of
@@ -40,7 +33,7 @@ pub struct Work {
 pub struct Search {
     pub phase: Phase,
     pub advances: u64,
-    pub trail: Trail,
+    pub trail: Places,
     pub blame: Blame,
     pub work: Work,
 }

@@ -3,16 +3,19 @@ use crate::blame;
 use crate::judge;
 use crate::state::Judgement;
 use crate::state::Turn;
-use search::step;
+use counting::tally::Marks;
+use indexing::machine;
 use search::step::Tested;
-use search::trail;
 ghost use mathlib.Core.Path.{_≡_};
 ghost use Prim.Native.Nat.{ℕ, _≤_, _<_};
 ghost use lib.ListN.{length};
-ghost use Rattle.search.specs.Places.{places, Sound};
+ghost use Rattle.search.specs.Places.{places, SoundTrail};
+ghost use Rattle.search.specs.Scan.{rules};
+ghost use Rattle.counting.specs.Tally.{index, tally};
+ghost use Rattle.indexing.specs.Leaf.{Leaf, Tallied};
 ghost use Rattle.cores.specs.Judging.{judging};
 ghost use Rattle.optimizer.specs.Source.{levelTables, source};
-ghost use Rattle.optimizer.specs.Turn.{query, blame, turned, turnOf, turns, turnsOf, judgedTurn, judgeFull, blamedOf, isGoing};
+ghost use Rattle.optimizer.specs.Turn.{queryTables, blameTables, turned, turnOf, turns, turnsOf, judgedTurn, judgeFull, blamedOf, isGoing};
 ghost use Rattle.optimizer.specs.Ready.{ReadyQuery, GoodBlame, backedTo};
 
 // What a step came to, with the trail's length and the first blamed place after it.
@@ -20,6 +23,12 @@ pub struct Turning {
     pub turn: Turn,
     pub len: usize,
     pub from: usize,
+}
+
+// What a step came to, and the marks of the numbers after it.
+pub struct Tracked {
+    pub turning: Turning,
+    pub marks: Marks,
 }
 
 // After a conflict: without a decision the query has ended.
@@ -61,18 +70,25 @@ fn judged<'a>(
     indices: &'a [u16],
     ends: &'a [u16],
     members: &'a [u16],
+    starts: &'a [u16],
+    lists: &'a [u16],
+    headstarts: &'a [u16],
+    headlists: &'a [u16],
     lits: &mut [i32; 1024],
     marks: &mut [u8; 1024],
     value: &mut [u8; 1025],
+    key: &mut [u16; 2048],
     flags: &mut [u8; 4096],
     core: &mut [u16],
     len: usize,
     from: usize,
-) -> Turning
-    requires { ⌜ ReadyQuery (source n (now pool) (now rows) rulecount (levelTables (now levels) (now priorities) (now literals) (now weights) entrycount)) (query level (now lowers) (now wished) (now spots) (now assumed) (judging (now softs) (now cores) (now indices) (now ends) (now members))) ⌝ }
-    requires { ⌜ GoodBlame (query level (now lowers) (now wished) (now spots) (now assumed) (judging (now softs) (now cores) (now indices) (now ends) (now members))) (blame (now flags) (now core) from) ⌝ }
-    requires { ⌜ Sound n (places (now lits) (now marks) (now value) len) ⌝ }
-    ensures { λ r. ⌜ turned (r .turn) (places (now (lits .exit)) (now (marks .exit)) (now (value .exit)) (r .len)) (blame (now (flags .exit)) (now (core .exit)) (r .from)) ≡ judgedTurn (query level (now (lowers .entry)) (now (wished .entry)) (now (spots .entry)) (now (assumed .entry)) (judging (now (softs .entry)) (now (cores .entry)) (now (indices .entry)) (now (ends .entry)) (now (members .entry)))) (places (now (lits .entry)) (now (marks .entry)) (now (value .entry)) len) (blame (now (flags .entry)) (now (core .entry)) from) (judgeFull (source n (now (pool .entry)) (now (rows .entry)) rulecount (levelTables (now (levels .entry)) (now (priorities .entry)) (now (literals .entry)) (now (weights .entry)) entrycount)) (query level (now (lowers .entry)) (now (wished .entry)) (now (spots .entry)) (now (assumed .entry)) (judging (now (softs .entry)) (now (cores .entry)) (now (indices .entry)) (now (ends .entry)) (now (members .entry)))) (blamedOf (blame (now (flags .entry)) (now (core .entry)) from)) (now (value .entry))) ⌝ }
+    m: Marks,
+) -> Tracked
+    requires { ⌜ ReadyQuery (source n (now pool) (now rows) rulecount (levelTables (now levels) (now priorities) (now literals) (now weights) entrycount)) (queryTables level (now lowers) (now wished) (now spots) (now assumed) (judging (now softs) (now cores) (now indices) (now ends) (now members))) ⌝ }
+    requires { ⌜ GoodBlame (queryTables level (now lowers) (now wished) (now spots) (now assumed) (judging (now softs) (now cores) (now indices) (now ends) (now members))) (blameTables (now flags) (now core) from) ⌝ }
+    requires { ⌜ SoundTrail n (places (now lits) (now marks) (now value) len) ⌝ }
+    requires { ⌜ Leaf (rules (now pool) (now rows) rulecount) n (index (now starts) (now lists)) (index (now headstarts) (now headlists)) (now value) (tally (now key) m) ⌝ }
+    ensures { λ r. ⌜ (turned (r .turning .turn) (places (now (lits .exit)) (now (marks .exit)) (now (value .exit)) (r .turning .len)) (blameTables (now (flags .exit)) (now (core .exit)) (r .turning .from)) ≡ judgedTurn (queryTables level (now (lowers .entry)) (now (wished .entry)) (now (spots .entry)) (now (assumed .entry)) (judging (now (softs .entry)) (now (cores .entry)) (now (indices .entry)) (now (ends .entry)) (now (members .entry)))) (places (now (lits .entry)) (now (marks .entry)) (now (value .entry)) len) (blameTables (now (flags .entry)) (now (core .entry)) from) (judgeFull (source n (now (pool .entry)) (now (rows .entry)) rulecount (levelTables (now (levels .entry)) (now (priorities .entry)) (now (literals .entry)) (now (weights .entry)) entrycount)) (queryTables level (now (lowers .entry)) (now (wished .entry)) (now (spots .entry)) (now (assumed .entry)) (judging (now (softs .entry)) (now (cores .entry)) (now (indices .entry)) (now (ends .entry)) (now (members .entry)))) (blamedOf (blameTables (now (flags .entry)) (now (core .entry)) from)) (now (value .entry)))) × Tallied (rules (now (pool .entry)) (now (rows .entry)) rulecount) (index (now (starts .entry)) (now (lists .entry))) (index (now (headstarts .entry)) (now (headlists .entry))) (now (value .exit)) (tally (now (key .exit)) (r .marks)) ⌝ }
 {
     let j = judge::judge_full(
         n,
@@ -92,23 +108,70 @@ fn judged<'a>(
         indices,
         ends,
         members,
+        starts,
+        lists,
+        headstarts,
+        headlists,
         blame::blamed(core, from),
         value,
+        key,
+        m,
     );
     match j {
-        Judgement::Wanted => Turning {
-            turn: Turn::Model,
-            len: len,
-            from: from,
+        Judgement::Wanted => Tracked {
+            turning: Turning {
+                turn: Turn::Model,
+                len: len,
+                from: from,
+            },
+            marks: m,
         },
         Judgement::Dead => {
-            let k = trail::back(lits, marks, value, len);
-            backed(k, from)
+            let k = machine::back(
+                pool,
+                rows,
+                rulecount,
+                starts,
+                lists,
+                headstarts,
+                headlists,
+                lits,
+                marks,
+                value,
+                key,
+                len,
+                m,
+            );
+            let after = k.marks;
+            let t = backed(k.len, from);
+            Tracked {
+                turning: t,
+                marks: after,
+            }
         }
         Judgement::Violated(p) => {
             let f = blame::blame_place(spots, p, flags, core, from);
-            let k = trail::back(lits, marks, value, len);
-            backed(k, f)
+            let k = machine::back(
+                pool,
+                rows,
+                rulecount,
+                starts,
+                lists,
+                headstarts,
+                headlists,
+                lits,
+                marks,
+                value,
+                key,
+                len,
+                m,
+            );
+            let after = k.marks;
+            let t = backed(k.len, f);
+            Tracked {
+                turning: t,
+                marks: after,
+            }
         }
     }
 }
@@ -134,23 +197,34 @@ pub fn turn<'a>(
     indices: &'a [u16],
     ends: &'a [u16],
     members: &'a [u16],
+    starts: &'a [u16],
+    lists: &'a [u16],
+    headstarts: &'a [u16],
+    headlists: &'a [u16],
     lits: &mut [i32; 1024],
     marks: &mut [u8; 1024],
     value: &mut [u8; 1025],
+    key: &mut [u16; 2048],
     flags: &mut [u8; 4096],
     core: &mut [u16],
     len: usize,
     from: usize,
-) -> Turning
-    requires { ⌜ ReadyQuery (source n (now pool) (now rows) rulecount (levelTables (now levels) (now priorities) (now literals) (now weights) entrycount)) (query level (now lowers) (now wished) (now spots) (now assumed) (judging (now softs) (now cores) (now indices) (now ends) (now members))) ⌝ }
-    requires { ⌜ GoodBlame (query level (now lowers) (now wished) (now spots) (now assumed) (judging (now softs) (now cores) (now indices) (now ends) (now members))) (blame (now flags) (now core) from) ⌝ }
-    requires { ⌜ Sound n (places (now lits) (now marks) (now value) len) ⌝ }
-    ensures { λ r. ⌜ turned (r .turn) (places (now (lits .exit)) (now (marks .exit)) (now (value .exit)) (r .len)) (blame (now (flags .exit)) (now (core .exit)) (r .from)) ≡ turnOf (source n (now (pool .entry)) (now (rows .entry)) rulecount (levelTables (now (levels .entry)) (now (priorities .entry)) (now (literals .entry)) (now (weights .entry)) entrycount)) (query level (now (lowers .entry)) (now (wished .entry)) (now (spots .entry)) (now (assumed .entry)) (judging (now (softs .entry)) (now (cores .entry)) (now (indices .entry)) (now (ends .entry)) (now (members .entry)))) (places (now (lits .entry)) (now (marks .entry)) (now (value .entry)) len) (blame (now (flags .entry)) (now (core .entry)) from) ⌝ }
+    m: Marks,
+) -> Tracked
+    requires { ⌜ ReadyQuery (source n (now pool) (now rows) rulecount (levelTables (now levels) (now priorities) (now literals) (now weights) entrycount)) (queryTables level (now lowers) (now wished) (now spots) (now assumed) (judging (now softs) (now cores) (now indices) (now ends) (now members))) ⌝ }
+    requires { ⌜ GoodBlame (queryTables level (now lowers) (now wished) (now spots) (now assumed) (judging (now softs) (now cores) (now indices) (now ends) (now members))) (blameTables (now flags) (now core) from) ⌝ }
+    requires { ⌜ SoundTrail n (places (now lits) (now marks) (now value) len) ⌝ }
+    requires { ⌜ Tallied (rules (now pool) (now rows) rulecount) (index (now starts) (now lists)) (index (now headstarts) (now headlists)) (now value) (tally (now key) m) ⌝ }
+    ensures { λ r. ⌜ (turned (r .turning .turn) (places (now (lits .exit)) (now (marks .exit)) (now (value .exit)) (r .turning .len)) (blameTables (now (flags .exit)) (now (core .exit)) (r .turning .from)) ≡ turnOf (source n (now (pool .entry)) (now (rows .entry)) rulecount (levelTables (now (levels .entry)) (now (priorities .entry)) (now (literals .entry)) (now (weights .entry)) entrycount)) (queryTables level (now (lowers .entry)) (now (wished .entry)) (now (spots .entry)) (now (assumed .entry)) (judging (now (softs .entry)) (now (cores .entry)) (now (indices .entry)) (now (ends .entry)) (now (members .entry)))) (places (now (lits .entry)) (now (marks .entry)) (now (value .entry)) len) (blameTables (now (flags .entry)) (now (core .entry)) from)) × Tallied (rules (now (pool .entry)) (now (rows .entry)) rulecount) (index (now (starts .entry)) (now (lists .entry))) (index (now (headstarts .entry)) (now (headlists .entry))) (now (value .exit)) (tally (now (key .exit)) (r .marks)) ⌝ }
 {
-    let o = step::step(
+    let o = machine::step(
         pool,
         rows,
         rulecount,
+        starts,
+        lists,
+        headstarts,
+        headlists,
         n,
         wished,
         flags,
@@ -158,20 +232,36 @@ pub fn turn<'a>(
         lits,
         marks,
         value,
+        key,
         len,
+        m,
     );
     let t = o.tested;
     let k = o.len;
+    let q = o.marks;
     match t {
-        Tested::RuleBroken(_) => backed(k, from),
+        Tested::RuleBroken(_) => {
+            let b = backed(k, from);
+            Tracked {
+                turning: b,
+                marks: q,
+            }
+        }
         Tested::SoftViolated(i) => {
             let f = blame::blame_entry(spots, i, flags, core, from);
-            backed(k, f)
+            let b = backed(k, f);
+            Tracked {
+                turning: b,
+                marks: q,
+            }
         }
-        Tested::Open(_) => Turning {
-            turn: Turn::Going,
-            len: k,
-            from: from,
+        Tested::Open(_) => Tracked {
+            turning: Turning {
+                turn: Turn::Going,
+                len: k,
+                from: from,
+            },
+            marks: q,
         },
         Tested::Full => judged(
             n,
@@ -193,13 +283,19 @@ pub fn turn<'a>(
             indices,
             ends,
             members,
+            starts,
+            lists,
+            headstarts,
+            headlists,
             lits,
             marks,
             value,
+            key,
             flags,
             core,
             k,
             from,
+            q,
         ),
     }
 }
@@ -231,25 +327,33 @@ pub fn turns<'a>(
     indices: &'a [u16],
     ends: &'a [u16],
     members: &'a [u16],
+    starts: &'a [u16],
+    lists: &'a [u16],
+    headstarts: &'a [u16],
+    headlists: &'a [u16],
     lits: &mut [i32; 1024],
     marks: &mut [u8; 1024],
     value: &mut [u8; 1025],
+    key: &mut [u16; 2048],
     flags: &mut [u8; 4096],
     core: &mut [u16],
     start: usize,
     first: usize,
+    m: Marks,
     budget: u32,
 ) -> Steps
-    requires { ⌜ ReadyQuery (source n (now pool) (now rows) rulecount (levelTables (now levels) (now priorities) (now literals) (now weights) entrycount)) (query level (now lowers) (now wished) (now spots) (now assumed) (judging (now softs) (now cores) (now indices) (now ends) (now members))) ⌝ }
-    requires { ⌜ GoodBlame (query level (now lowers) (now wished) (now spots) (now assumed) (judging (now softs) (now cores) (now indices) (now ends) (now members))) (blame (now flags) (now core) first) ⌝ }
-    requires { ⌜ Sound n (places (now lits) (now marks) (now value) start) ⌝ }
-    ensures { λ r. ⌜ turns (turned (r .turning .turn) (places (now (lits .exit)) (now (marks .exit)) (now (value .exit)) (r .turning .len)) (blame (now (flags .exit)) (now (core .exit)) (r .turning .from))) (r .made) ≡ turnsOf (source n (now (pool .entry)) (now (rows .entry)) rulecount (levelTables (now (levels .entry)) (now (priorities .entry)) (now (literals .entry)) (now (weights .entry)) entrycount)) (query level (now (lowers .entry)) (now (wished .entry)) (now (spots .entry)) (now (assumed .entry)) (judging (now (softs .entry)) (now (cores .entry)) (now (indices .entry)) (now (ends .entry)) (now (members .entry)))) budget (places (now (lits .entry)) (now (marks .entry)) (now (value .entry)) start) (blame (now (flags .entry)) (now (core .entry)) first) ⌝ }
+    requires { ⌜ ReadyQuery (source n (now pool) (now rows) rulecount (levelTables (now levels) (now priorities) (now literals) (now weights) entrycount)) (queryTables level (now lowers) (now wished) (now spots) (now assumed) (judging (now softs) (now cores) (now indices) (now ends) (now members))) ⌝ }
+    requires { ⌜ GoodBlame (queryTables level (now lowers) (now wished) (now spots) (now assumed) (judging (now softs) (now cores) (now indices) (now ends) (now members))) (blameTables (now flags) (now core) first) ⌝ }
+    requires { ⌜ SoundTrail n (places (now lits) (now marks) (now value) start) ⌝ }
+    requires { ⌜ Tallied (rules (now pool) (now rows) rulecount) (index (now starts) (now lists)) (index (now headstarts) (now headlists)) (now value) (tally (now key) m) ⌝ }
+    ensures { λ r. ⌜ turns (turned (r .turning .turn) (places (now (lits .exit)) (now (marks .exit)) (now (value .exit)) (r .turning .len)) (blameTables (now (flags .exit)) (now (core .exit)) (r .turning .from))) (r .made) ≡ turnsOf (source n (now (pool .entry)) (now (rows .entry)) rulecount (levelTables (now (levels .entry)) (now (priorities .entry)) (now (literals .entry)) (now (weights .entry)) entrycount)) (queryTables level (now (lowers .entry)) (now (wished .entry)) (now (spots .entry)) (now (assumed .entry)) (judging (now (softs .entry)) (now (cores .entry)) (now (indices .entry)) (now (ends .entry)) (now (members .entry)))) budget (places (now (lits .entry)) (now (marks .entry)) (now (value .entry)) start) (blameTables (now (flags .entry)) (now (core .entry)) first) ⌝ }
 {
     let mut len = start;
     let mut from = first;
+    let mut at = m;
     let mut made: u32 = 0;
     while made < budget {
-        let r = turn(
+        let x = turn(
             n,
             pool,
             rows,
@@ -269,14 +373,21 @@ pub fn turns<'a>(
             indices,
             ends,
             members,
+            starts,
+            lists,
+            headstarts,
+            headlists,
             lits,
             marks,
             value,
+            key,
             flags,
             core,
             len,
             from,
+            at,
         );
+        let r = x.turning;
         made += 1;
         if !is_going(r) {
             return Steps {
@@ -286,6 +397,7 @@ pub fn turns<'a>(
         }
         len = r.len;
         from = r.from;
+        at = x.marks;
     }
     Steps {
         turning: Turning {

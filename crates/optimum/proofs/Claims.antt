@@ -85,7 +85,7 @@ module _ (S : Given) where
   best-is (full c w) g = g .work .base .0
 
   -- (c) at the optimum the lower bounds are the best model's costs, so every other model costs at least as much
-  optimum-is : (c : ℕ) (past : List (List Entry)) (settled : List ℕ) (N : Set) → GoodEnd S past settled [] N → costsOn N levels ≡ lowers levels (optimum c past settled N)
+  pub optimum-is : (c : ℕ) (past : List (List Entry)) (settled : List ℕ) (N : Set) → GoodEnd S past settled [] N → costsOn N levels ≡ lowers levels (optimum c past settled N)
   optimum-is c past settled N g = subst (λ (ls : List (List Entry)). costsOn N ls ≡ onto settled []) (g .place) (onto-costs N past settled [] [] (g .base .1) refl)
 
   pub optimum-best : (c : ℕ) (past : List (List Entry)) (settled : List ℕ) (N : Set) → GoodEnd S past settled [] N → (M : Set) → Model M
@@ -152,19 +152,19 @@ settle-count c w =
 none-count : (c : ℕ) (w : Work) (ms : List ℕ) → advances (noModel c w ms) ≡ c
 none-count c w ms = elim (room (w .tables) ms) as (λ b. advances (pick b (settle c (withCore w ms)) (full c w)) ≡ c) [ true ↦ settle-count c (withCore w ms) | false ↦ refl ]
 
-first-count : (levels : List (List Entry)) (c : ℕ) (s : machine.State) → advances (afterFirst levels c s) ≡ c
+first-count : (levels : List (List Entry)) (c : ℕ) (s : machine.QueryState) → advances (afterFirst levels c s) ≡ c
 first-count levels c (machine.running t ms) = refl
 first-count levels c (machine.without ms) = refl
 first-count levels c (machine.model M) = open-count c [] [] levels M
 
-work-count : (levels : List (List Entry)) (c : ℕ) (w : Work) (s : machine.State) → advances (afterWork levels c w s) ≡ c
+work-count : (levels : List (List Entry)) (c : ℕ) (w : Work) (s : machine.QueryState) → advances (afterWork levels c w s) ≡ c
 work-count levels c w (machine.running t ms) = refl
 work-count levels c w (machine.without ms) = none-count c w ms
 work-count levels c w (machine.model M) = settle-count c (withModel levels w M)
 
 pub counted : (levels : List (List Entry)) (X : Tests) (s : State) → Running s → advances (advance levels X s) ≡ suc (advances s)
-counted levels X (first c t) r = first-count levels (suc c) (machine.advance (X .testFirst t) t [])
-counted levels X (working c w t ms) r = work-count levels (suc c) w (machine.advance (X .test w ms t) t ms)
+counted levels X (first c t) r = first-count levels (suc c) (machine.advanceBy (X .testFirst t) t [])
+counted levels X (working c w t ms) r = work-count levels (suc c) w (machine.advanceBy (X .test w ms t) t ms)
 counted levels X (optimum c past settled M) r = absurd r
 counted levels X (incoherent c) r = absurd r
 counted levels X (full c w) r = absurd r
@@ -207,14 +207,14 @@ settle-best c w =
 none-best : (c : ℕ) (w : Work) (ms : List ℕ) → bestOf (noModel c w ms) ≡ some (w .best)
 none-best c w ms = elim (room (w .tables) ms) as (λ b. bestOf (pick b (settle c (withCore w ms)) (full c w)) ≡ some (w .best)) [ true ↦ settle-best c (withCore w ms) | false ↦ refl ]
 
-pub work-falls : (levels : List (List Entry)) (c : ℕ) (w : Work) (s : machine.State) → Falls levels (some (w .best)) (bestOf (afterWork levels c w s))
+pub work-falls : (levels : List (List Entry)) (c : ℕ) (w : Work) (s : machine.QueryState) → Falls levels (some (w .best)) (bestOf (afterWork levels c w s))
 work-falls levels c w (machine.running t ms) = no-dearer-refl ltb ltb-linear (costsOn (w .best) levels)
 work-falls levels c w (machine.without ms) = subst (Falls levels (some (w .best))) (sym (none-best c w ms)) (no-dearer-refl ltb ltb-linear (costsOn (w .best) levels))
 work-falls levels c w (machine.model M) = subst (Falls levels (some (w .best))) (sym (settle-best c (withModel levels w M))) (better-le levels M (w .best) .1)
 
 pub falls : (levels : List (List Entry)) (X : Tests) (s : State) → Falls levels (bestOf s) (bestOf (advance levels X s))
 falls levels X (first c t) = tt
-falls levels X (working c w t ms) = work-falls levels (suc c) w (machine.advance (X .test w ms t) t ms)
+falls levels X (working c w t ms) = work-falls levels (suc c) w (machine.advanceBy (X .test w ms t) t ms)
 falls levels X (optimum c past settled M) = no-dearer-refl ltb ltb-linear (costsOn M levels)
 falls levels X (incoherent c) = tt
 falls levels X (full c w) = no-dearer-refl ltb ltb-linear (costsOn (w .best) levels)

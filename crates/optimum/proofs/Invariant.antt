@@ -7,7 +7,7 @@ use Prim.Native.Nat.{ℕ, suc, _+_, _*_, _^_, _≤_}
 use Rattle.asp.specs.Sets.{Set}
 use Rattle.asp.specs.Program.{Entry, All}
 use Rattle.asp.specs.Cost.{cost, weight}
-use Rattle.search.specs.Trail.{Trail, WellFormed}
+use Rattle.search.specs.Trail.{Trail, FormedTrail}
 use Rattle.search.proofs.Spent.{spent}
 use Rattle.search.proofs.Search as search
 use Rattle.cores.specs.Sums.{Holds}
@@ -96,5 +96,5 @@ module _ (S : Given) where
   -- ---- the tests are right
 
   pub record Right (X : Tests) : Type 0 where
-    pub rightFirst : (t : Trail) → WellFormed n t → search.Says firstQuery t (X .testFirst t)
+    pub rightFirst : (t : Trail) → FormedTrail n t → search.Says firstQuery t (X .testFirst t)
     pub right : (w : Work) (ms : List ℕ) (t : Trail) → GoodWork w → 1 ≤ w .stratum → search.GoodTrail (levelQuery w) t ms → search.Says (levelQuery w) t (X .test w ms t)

@@ -13,7 +13,7 @@ use lib.ListN.{length, getD}
 use Rattle.asp.specs.Sets.{Set, pick}
 use Rattle.asp.specs.Program.{Entry, All}
 use Rattle.asp.specs.Cost.{cost, weight, total}
-use Rattle.search.specs.Trail.{Trail, WellFormed}
+use Rattle.search.specs.Trail.{Trail, FormedTrail}
 use Rattle.search.specs.Machine.{Verdict}
 use Rattle.search.specs.Machine as machine
 use Rattle.search.proofs.Spent.{spent, spent-le}
@@ -191,7 +191,7 @@ module _ (S : Given) where
   -- ---- an advance
 
   -- what a step of a query comes to, from what the search says of it
-  pub work-kept : (c : ℕ) (w : Work) (x : ℕ) (s : machine.State) → GoodWork S w → 1 ≤ w .stratum → cost (w .best) (w .level) ≢ w .tables .lower → Paid S w c x → x + 2 ≤ power S
+  pub work-kept : (c : ℕ) (w : Work) (x : ℕ) (s : machine.QueryState) → GoodWork S w → 1 ≤ w .stratum → cost (w .best) (w .level) ≢ w .tables .lower → Paid S w c x → x + 2 ≤ power S
       → search.Good (levelQuery S w) s → search.Paid (levelQuery S w) (suc x) s → Inv S (afterWork levels (suc c) w s)
   work-kept c w x (machine.running t ms) g s1 u p k h q = record { work = g; positive = s1; unsettled = u; trail = h; paid = omega (arith, p, q) }
   work-kept c w x (machine.without ms) g s1 u p k h q =
@@ -200,9 +200,9 @@ module _ (S : Given) where
   work-kept c w x (machine.model M) g s1 u p k h q = found-kept c w M g s1 h x k p
 
   pub turn-kept : (c : ℕ) (w : Work) (t : Trail) (ms : List ℕ) (x : Verdict) → GoodWorking S c w t ms → search.Says (levelQuery S w) t x
-      → Inv S (afterWork levels (suc c) w (machine.advance x t ms))
+      → Inv S (afterWork levels (suc c) w (machine.advanceBy x t ms))
   turn-kept c w t ms x g r =
-      work-kept c w (spent n t) (machine.advance x t ms) (g .work) (g .positive) (g .unsettled) (g .paid) (spent-le n t (g .trail .short))
+      work-kept c w (spent n t) (machine.advanceBy x t ms) (g .work) (g .positive) (g .unsettled) (g .paid) (spent-le n t (g .trail .short))
       (search.good-advance (levelQuery S w) t ms x r (g .trail))
       (search.paid-advance (levelQuery S w) (spent n t) t ms x (g .trail .short) (omega arith))
 
@@ -214,7 +214,7 @@ module _ (S : Given) where
   none-met [] a = tt
   none-met (m ∷ ms) a = absurd (a .0)
 
-  first-after : (c : ℕ) (s : machine.State) → search.Good (firstQuery S) s → search.Paid (firstQuery S) (suc c) s → Inv S (afterFirst levels (suc c) s)
+  first-after : (c : ℕ) (s : machine.QueryState) → search.Good (firstQuery S) s → search.Paid (firstQuery S) (suc c) s → Inv S (afterFirst levels (suc c) s)
   first-after c (machine.running t ms) g p = record { trail = subst (search.GoodTrail (firstQuery S) t) (no-blame ms (g .assumed)) g; paid = p }
   first-after c (machine.without ms) g p = λ M m. g .none-meets M (m, none-met ms (g .assumed))
   first-after c (machine.model M) g p = open-kept (suc c) [] [] levels M (record { place = refl; base = (g .0, tt); floor = tt }) (small c (power S) (weights []) p)
@@ -222,9 +222,9 @@ module _ (S : Given) where
       small : (c P t : ℕ) → suc c + 1 ≤ P → suc c ≤ (1 + 2 * t) * P
       small c P t h = omega arith
 
-  pub first-kept : (c : ℕ) (t : Trail) (x : Verdict) → GoodFirst S c t → search.Says (firstQuery S) t x → Inv S (afterFirst levels (suc c) (machine.advance x t []))
+  pub first-kept : (c : ℕ) (t : Trail) (x : Verdict) → GoodFirst S c t → search.Says (firstQuery S) t x → Inv S (afterFirst levels (suc c) (machine.advanceBy x t []))
   first-kept c t x g r =
-      first-after c (machine.advance x t []) (search.good-advance (firstQuery S) t [] x r (g .trail)) (search.paid-advance (firstQuery S) c t [] x (g .trail .short) (g .paid))
+      first-after c (machine.advanceBy x t []) (search.good-advance (firstQuery S) t [] x r (g .trail)) (search.paid-advance (firstQuery S) c t [] x (g .trail .short) (g .paid))
 
   pub start-kept : Inv S (first 0 [])
   start-kept = record { trail = search.good-start (firstQuery S); paid = zero-le }

@@ -109,13 +109,13 @@ noModel c w ms = pick (room (w .tables) ms) (settle c (withCore w ms)) (full c w
 -- ---- an advance
 
 -- what a step of the first query comes to
-abbrev pub afterFirst : List (List Entry) → ℕ → machine.State → State
+abbrev pub afterFirst : List (List Entry) → ℕ → machine.QueryState → State
 afterFirst levels c (machine.running t ms) = first c t
 afterFirst levels c (machine.without ms) = incoherent c
 afterFirst levels c (machine.model M) = openNext c [] [] levels M
 
 -- what a step of a query on a level comes to
-abbrev pub afterWork : List (List Entry) → ℕ → Work → machine.State → State
+abbrev pub afterWork : List (List Entry) → ℕ → Work → machine.QueryState → State
 afterWork levels c w (machine.running t ms) = working c w t ms
 afterWork levels c w (machine.without ms) = noModel c w ms
 afterWork levels c w (machine.model M) = settle c (withModel levels w M)
@@ -127,8 +127,8 @@ pub record Tests : Type 0 where
 
 -- "An advance after the end does nothing and isn't counted."
 abbrev pub advance : List (List Entry) → Tests → State → State
-advance levels X (first c t) = afterFirst levels (suc c) (machine.advance (X .testFirst t) t [])
-advance levels X (working c w t ms) = afterWork levels (suc c) w (machine.advance (X .test w ms t) t ms)
+advance levels X (first c t) = afterFirst levels (suc c) (machine.advanceBy (X .testFirst t) t [])
+advance levels X (working c w t ms) = afterWork levels (suc c) w (machine.advanceBy (X .test w ms t) t ms)
 advance levels X (optimum c past settled M) = optimum c past settled M
 advance levels X (incoherent c) = incoherent c
 advance levels X (full c w) = full c w
@@ -177,12 +177,12 @@ abbrev pub uppers : List (List Entry) → State → Option (List ℕ)
 uppers levels s = uppersBy levels (bestOf s)
 
 -- "level in work (from 1, the highest; 0 if none), stratum (0 if no level is in work)"
-abbrev pub inWork : State → ℕ
-inWork (first c t) = 0
-inWork (working c w t ms) = suc (length (w .past))
-inWork (optimum c past settled M) = 0
-inWork (incoherent c) = 0
-inWork (full c w) = suc (length (w .past))
+abbrev pub levelInWork : State → ℕ
+levelInWork (first c t) = 0
+levelInWork (working c w t ms) = suc (length (w .past))
+levelInWork (optimum c past settled M) = 0
+levelInWork (incoherent c) = 0
+levelInWork (full c w) = suc (length (w .past))
 
 abbrev pub stratumOf : State → ℕ
 stratumOf (first c t) = 0

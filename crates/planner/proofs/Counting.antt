@@ -12,7 +12,8 @@ use Rattle.optimizer.specs.declared.state.Phase.{Phase}
 use Rattle.optimizer.specs.declared.state.Phase.the-variants.{First, Level, Optimum, Incoherent, Full}
 use Rattle.optimizer.specs.declared.state.Search.{Search}
 use Rattle.optimizer.specs.Source.{Source}
-use Rattle.optimizer.specs.Finish.{isRunning, advanceOf, advancesOf, madeBy}
+use Rattle.optimizer.specs.State.{isRunning}
+use Rattle.optimizer.specs.Advance.{advanceOf, advancesOf, madeBy}
 use Rattle.optimizer.specs.Run.{bumpedBy}
 use Rattle.optimizer.proofs.Advancing.{rest-advances, rest-made}
 use Rattle.planner.specs.declared.service.Status.{Status}
@@ -30,7 +31,7 @@ code status.Optimum = 2
 code status.Incoherent = 3
 code status.Full = 4
 
-pub runs-is : (p : Phase) → told.isRunning (statusOf p) ≡ isRunning p
+pub runs-is : (p : Phase) → told.isRunningStatus (statusOf p) ≡ isRunning p
 runs-is First = refl
 runs-is Level = refl
 runs-is Optimum = refl

@@ -7,9 +7,9 @@ use mathlib.Core.Option.{some}
 use Prim.Native.Nat.{ℕ, suc, _+_, _*_, _^_, _≤_, _<_}
 use native.Mathlib.Omega.{arith}
 use lib.Dec.{ltb}
-use lib.ListN.{length, drop, drop-of-length-le}
+use lib.ListN.{length, getD, drop, drop-of-length-le}
 use borrow.Author.Tests.{le-ltb}
-use Rattle.asp.specs.Sets.{Set}
+use Rattle.asp.specs.Sets.{Set, pick}
 use Rattle.asp.specs.Program.{Program, Entry, All, atoms}
 use Rattle.asp.specs.Stable.{Stable}
 use Rattle.asp.specs.Cost.{weight, W, costs, NoDearer}
@@ -17,24 +17,26 @@ use Rattle.aspif_lines.specs.Text.{Answer, accepted, textOf}
 use Rattle.aspif.specs.Store.{storedProgram, storedText, WellFormed}
 use Rattle.aspif.specs.declared.text.Stored.{Stored}
 use Rattle.aspif_lines.proofs.Spans.{append-nil, span-length}
-use Rattle.optimizer.specs.declared.state.Phase.the-variants.{Optimum}
+use Rattle.optimizer.specs.declared.state.Phase.{Phase}
+use Rattle.optimizer.specs.declared.state.Phase.the-variants.{First, Level, Optimum, Incoherent, Full}
 use Rattle.optimizer.specs.declared.state.Search.{Search}
 use Rattle.optimizer.specs.Source.{Source}
-use Rattle.optimizer.specs.Finish.{freshSearch, advancesOf, madeBy}
-use Rattle.optimizer.specs.Facts.{Facts, hasModel, lowersIn, uppersIn, bestIn, costsIn}
+use Rattle.optimizer.specs.State.{freshSearch}
+use Rattle.optimizer.specs.Advance.{advancesOf, madeBy}
+use Rattle.optimizer.specs.Facts.{Facts, hasModel, isInWork, lowersIn, uppersIn, bestIn, costsIn}
 use Rattle.optimizer.proofs.Reached.{reached-facts}
 use Rattle.planner.specs.declared.service.Service.{Service}
 use Rattle.planner.specs.declared.service.Status.the-variants as status
 use Rattle.planner.specs.Held.{freshService, sourceOf, statusOf}
 use Rattle.planner.specs.Sound.{Sound}
-use Rattle.planner.specs.Calls.{gives, Loads, outcome, fills, filled, unfilled, given, byteOf, modelBytes, modelCall, AfterLoad}
+use Rattle.planner.specs.Calls.{gives, Loads, outcome, fills, filled, unfilled, given, levelSeen, byteOf, modelBytes, modelCall, AfterLoad}
 use Rattle.planner.specs.Tally.{load, Does, Tally, tally, begin}
 use Rattle.planner.specs.Demand.{BestBy, RunIs, Claim, Demand, Demand3}
 use Rattle.planner.proofs.Answers.{at-true}
 use Rattle.planner.proofs.Moving.{at-false}
-use Rattle.planner.proofs.Link.{formed-source, levels-is, weight-is, costs-is}
+use Rattle.planner.proofs.Link.{formed-source, priorities-is, levels-is, weight-is, costs-is}
 use Rattle.planner.proofs.Counting.{figure-min, runs-is, status-running, status-optimum, status-incoherent, status-full, made-most, made-ends, run-advances}
-use Rattle.planner.proofs.Symbols.{name-by, shown-gone, shown-by, shown-without}
+use Rattle.planner.proofs.Symbols.{orElse, name-by, shown-gone, shown-by, shown-without}
 use Rattle.planner.proofs.Together.{after, steppedTo, toldAs, Now, Together, together}
 
 -- n bytes into n lent bytes
@@ -120,6 +122,55 @@ module _ (t : List ℕ) (p : Stored) (w : WellFormed p) (k : ℕ) where
         ends = λ h. runs-is (advancesOf S b q .phase) ∙ made-ends S b q h;
       }
 
+  -- ---- the bounds
+
+  upper-is : {u : List ℕ} → given (hasModel (q .phase)) (uppersIn S q) ≡ some u → uppersIn S q ≡ u
+  upper-is {u} e = go (hasModel (q .phase)) e
+    where
+      go : (m : Bool) → given m (uppersIn S q) ≡ some u → uppersIn S q ≡ u
+      go true e = ap (orElse (uppersIn S q)) e
+      go false e = let z : _≡_ {A = ℕ} 0 1 = cc in absurd (omega arith)
+
+  settled-of : (u : List ℕ) → given (hasModel (q .phase)) (uppersIn S q) ≡ some u → (j : ℕ) → suc j < levelSeen (q .phase) (q .work .level) → getD (lowersIn S q) j 0 ≡ getD u j 0
+  settled-of u e j h = go (isInWork (q .phase)) refl h
+    where
+      go : (b : Bool) → isInWork (q .phase) ≡ b → suc j < pick b (q .work .level + 1) 0 → getD (lowersIn S q) j 0 ≡ getD u j 0
+      go true i h = facts .settled i j (omega arith) ∙ ap (λ (x : List ℕ). getD x j 0) (upper-is e)
+      go false i h = absurd (omega arith)
+
+  -- a running state with a model is on a level
+  on-level : (p : Phase) → statusOf p ≡ status.Running → {u : List ℕ} → given (hasModel p) (uppersIn S q) ≡ some u → p ≡ Level
+  on-level First h e = let z : _≡_ {A = ℕ} 0 1 = cc in absurd (omega arith)
+  on-level Level h e = refl
+  on-level Optimum h e = let z : _≡_ {A = ℕ} 0 1 = cc in absurd (omega arith)
+  on-level Incoherent h e = let z : _≡_ {A = ℕ} 0 1 = cc in absurd (omega arith)
+  on-level Full h e = let z : _≡_ {A = ℕ} 0 1 = cc in absurd (omega arith)
+
+  level-is : (h : statusOf (q .phase) ≡ status.Running) {u : List ℕ} → given (hasModel (q .phase)) (uppersIn S q) ≡ some u → levelSeen (q .phase) (q .work .level) ≡ q .work .level + 1
+  level-is h e = ap (λ (p : Phase). levelSeen p (q .work .level)) (on-level (q .phase) h e)
+
+  unsettled-of : statusOf (q .phase) ≡ status.Running → (u : List ℕ) → given (hasModel (q .phase)) (uppersIn S q) ≡ some u → (j : ℕ) → levelSeen (q .phase) (q .work .level) ≡ suc j
+      → getD (lowersIn S q) j 0 < getD u j 0
+  unsettled-of h u e j k =
+      let i : q .work .level ≡ j = omega (arith, level-is h e) in
+      subst (λ (x : List ℕ). getD (lowersIn S q) j 0 < getD x j 0) (upper-is e)
+      (subst (λ (n : ℕ). getD (lowersIn S q) n 0 < getD (uppersIn S q) n 0) i (facts .unsettled (on-level (q .phase) h e)))
+
+  later-of : (statusOf (q .phase) ≡ status.Optimum → ⊥) → (j : ℕ) → levelSeen (q .phase) (q .work .level) ≤ j → getD (lowersIn S q) j 0 ≡ 0
+  later-of n j h = go (q .phase) refl n h
+    where
+      go : (p : Phase) → q .phase ≡ p → (statusOf p ≡ status.Optimum → ⊥) → levelSeen p (q .work .level) ≤ j → getD (lowersIn S q) j 0 ≡ 0
+      go First e n h = facts .start (ap hasModel e) j
+      go Level e n h = facts .later (ap isInWork e) j (omega arith)
+      go Optimum e n h = absurd (n refl)
+      go Incoherent e n h = facts .start (ap hasModel e) j
+      go Full e n h = facts .later (ap isInWork e) j (omega arith)
+
+  meet-of : statusOf (q .phase) ≡ status.Optimum → given (hasModel (q .phase)) (uppersIn S q) ≡ some (lowersIn S q)
+  meet-of h =
+      let e : q .phase ≡ Optimum = status-optimum (q .phase) h in
+      ap (λ (p : Phase). given (hasModel p) (uppersIn S q)) e ∙ ap some (sym (facts .bounds-meet e))
+
   claim-of : Claim P (storedText p) s (toldAs t p k)
   claim-of =
       record {
@@ -139,6 +190,12 @@ module _ (t : List ℕ) (p : Stored) (w : WellFormed p) (k : ℕ) where
         patient = patient-of;
         never-full = λ g h. facts .never-full (subst (All (λ (l : List Entry). weight l ≤ 90)) (sym (levels-is p w)) g) (status-full (q .phase) h);
         runs = runs-of;
+        as-many = facts .as-many ∙ ap length (priorities-is p w);
+        settled = settled-of;
+        in-work = λ h u e. omega (arith, level-is h e);
+        unsettled = unsettled-of;
+        later = later-of;
+        bounds-meet = meet-of;
       }
 
   sound-of : Sound s

@@ -20,7 +20,7 @@ use Rattle.aspif.specs.Store.{storedText}
 use Rattle.optimizer.specs.Facts.{hasModel, bestIn}
 use Rattle.planner.specs.declared.service.Service.{Service}
 use Rattle.planner.specs.Held.{symbolOf}
-use Rattle.planner.specs.Calls.{Says, gives, lacks, fills, Filling, filling, filledWith, filled, unfilled, roomFor, saysWritten, writeCall, modelBytes, modelCall, hasSymbol, nameOf, nameCall}
+use Rattle.planner.specs.Calls.{Says, gives, refusesFor, fills, Filling, filling, filledWith, filled, unfilled, roomFor, saysWritten, writeCall, modelBytes, modelCall, hasSymbol, nameOf, nameCall}
 use Rattle.planner.proofs.Answers.{at-true}
 
 set-at : (xs ys : List ℕ) (y v : ℕ) → set (xs ++ (y ∷ ys)) (length xs) v ≡ xs ++ (v ∷ ys)
@@ -62,7 +62,7 @@ module _ {f : ℕ → ℕ} {n : ℕ} {old : List ℕ} where
       let e : i ≡ n = omega (arith, c .upto) in
       rw (span-length f 1 n, le-ltb (length old) n (c .room)) (ap (filling (gives n)) (rw e at (c .here)))
 
-pub front-short : (f : ℕ → ℕ) (n : ℕ) (old : List ℕ) → length old < n → filling (lacks n) old ≡ filledWith (span f 1 n) old
+pub front-short : (f : ℕ → ℕ) (n : ℕ) (old : List ℕ) → length old < n → filling (refusesFor 8 n) old ≡ filledWith (span f 1 n) old
 front-short f n old h = rw (span-length f 1 n, lt-ltb (length old) n h)
 
 -- ---- what aspif's write says
@@ -70,7 +70,7 @@ front-short f n old h = rw (span-length f 1 n, lt-ltb (length old) n h)
 written-says : (size room : ℕ) → saysWritten (writtenOf size room) ≡ roomFor size room
 written-says size room = go (ltb room size)
   where
-    go : (b : Bool) → saysWritten (pick b (written.Short size) (written.Length size)) ≡ pick b (lacks size) (gives size)
+    go : (b : Bool) → saysWritten (pick b (written.Short size) (written.Length size)) ≡ pick b (refusesFor 8 size) (gives size)
     go true = refl
     go false = refl
 

@@ -6,7 +6,7 @@ use lib.ListN.{replicate}
 use Rattle.aspif.specs.declared.table.Counts.{Counts}
 use Rattle.aspif.specs.declared.text.Stored.{Stored}
 use Rattle.optimizer.specs.declared.state.Search.{Search}
-use Rattle.optimizer.specs.Finish.{freshSearch}
+use Rattle.optimizer.specs.State.{freshSearch}
 use Rattle.planner.specs.Held.{service, emptyCounts, emptyStored, freshService}
 
 -- empty tables, with the counts k

@@ -8,7 +8,8 @@ use Rattle.aspif_lines.specs.Text.{Answer, accepted, refused}
 use Rattle.aspif.specs.Store.{WellFormed}
 use Rattle.aspif.specs.declared.text.Stored.{Stored}
 use Rattle.optimizer.specs.declared.state.Search.{Search}
-use Rattle.optimizer.specs.Finish.{freshSearch, advanceOf, advancesOf}
+use Rattle.optimizer.specs.State.{freshSearch}
+use Rattle.optimizer.specs.Advance.{advanceOf, advancesOf}
 use Rattle.optimizer.specs.Run.{Reached}
 use Rattle.optimizer.proofs.Reached.{reached-fresh, reached-more, reached-next}
 use Rattle.planner.specs.declared.service.Service.{Service}

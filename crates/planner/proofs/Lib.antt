@@ -1,3 +1,4 @@
+pub mod Sizes
 pub mod Fresh
 pub mod Answers
 pub mod Link
@@ -10,3 +11,5 @@ pub mod Together
 pub mod Kept
 pub mod Demand
 pub mod Samples
+pub mod Alike
+pub mod Paths

@@ -18,7 +18,9 @@ use Rattle.aspif.specs.declared.text.Stored.{Stored}
 use Rattle.aspif_lines.proofs.Spans.{span-same}
 use Rattle.optimizer.specs.Source.{many, entriesIn, levelAt, levelsIn, rulesIn, FormedLevels, FormedSource}
 use Rattle.optimizer.specs.Facts.{costsIn, weightIn}
+use Rattle.indexing.proofs.Indexing.{ready}
 use Rattle.planner.specs.Held.{sourceOf}
+use Rattle.planner.proofs.Sizes.{sizes}
 
 -- places of a list from i on
 span-drop : {A : Type 0} (d : A) (xs : List A) (i k : ℕ) → i + k ≤ length xs → span (λ (j : ℕ). getD xs j d) i k ≡ take k (drop i xs)
@@ -63,6 +65,7 @@ module _ (p : Stored) (w : WellFormed p) where
     rules = w .formed;
     levels = formed-levels;
     atoms = w .named .entries;
+    readied = ready (w .formed) (w .within .rules) (omega (arith, w .size, sizes (p .pool) (p .rules) (p .counts .rules) (w .formed) 0 (p .counts .rules) (omega arith)));
   }
 
   -- ---- THEY HOLD THE PROGRAM OF THE TEXT

@@ -14,14 +14,15 @@ use Rattle.aspif.specs.declared.text.Loading.{Loading}
 use Rattle.aspif.specs.declared.text.Loading.the-variants.{Accepted, RefusedAt}
 use Rattle.optimizer.specs.declared.state.Search.{Search}
 use Rattle.optimizer.specs.Source.{Source, source, levelTables, many}
-use Rattle.optimizer.specs.Finish.{freshSearch, advanceOf, madeBy}
-use Rattle.optimizer.specs.Run.{Advances, advances, runOf, Reached}
-use Rattle.optimizer.specs.Facts.{Facts, hasModel, inWork}
+use Rattle.optimizer.specs.State.{freshSearch}
+use Rattle.optimizer.specs.Advance.{advanceOf, madeBy}
+use Rattle.optimizer.specs.Run.{AfterRun, afterRun, runOf, Reached}
+use Rattle.optimizer.specs.Facts.{Facts, hasModel, isInWork}
 use Rattle.optimizer.proofs.Reached.{reached-facts}
 use Rattle.planner.specs.declared.service.Service.{Service}
 use Rattle.planner.specs.declared.service.Status.{Status}
 use Rattle.planner.specs.Held.{service, sourceOf, statusOf}
-use Rattle.planner.specs.Calls.{Says, gives, refuses, Outcome, outcome, movedTo, advanced, advanceCall, Count, count, ran, made, runCall, accepts, refusesAt, AfterLoad, Seen, seen, given, seenIn, nothingSeen, lookCall, levelOf, stratumOf}
+use Rattle.planner.specs.Calls.{Says, gives, refuses, Outcome, outcome, movedTo, advanced, advanceCall, Count, countOf, ran, made, runCall, accepts, refusesAt, AfterLoad, Seen, seen, given, seenIn, nothingSeen, lookCall, levelSeen, stratumSeen}
 use Rattle.planner.proofs.Answers.{at-true}
 use Rattle.planner.proofs.Link.{levels-many, priorities-is}
 
@@ -52,15 +53,15 @@ module _ (s : Service) where
       ap₂ (λ (a : Status) (t : Search). outcome (gives a) (movedTo s t)) (h ∙ ap (λ (t : Search). statusOf (t .phase)) d′) d′
       ∙ at-true (s .loaded) (outcome (gives (statusOf (advanced s .phase))) (movedTo s (advanced s))) (outcome (refuses 6) s) l
 
-  abbrev ranTo : Advances → Outcome (Says Count)
-  ranTo x = outcome (gives (count (x .made) (statusOf (x .search .phase)))) (movedTo s (x .search))
+  abbrev ranTo : AfterRun → Outcome (Says Count)
+  ranTo x = outcome (gives (countOf (x .made) (statusOf (x .search .phase)))) (movedTo s (x .search))
 
-  pub run-is : (b : ℕ) → s .loaded ≡ true → (L : List ℤ) → L ≡ levelsUsed (s .stored) → {t : Search} {k : ℕ} → advances t k ≡ runOf (sourceBy (s .stored) L) b (s .search)
-      → {a : Status} → a ≡ statusOf (t .phase) → outcome (gives (count k a)) (movedTo s t) ≡ runCall s b
+  pub run-is : (b : ℕ) → s .loaded ≡ true → (L : List ℤ) → L ≡ levelsUsed (s .stored) → {t : Search} {k : ℕ} → afterRun t k ≡ runOf (sourceBy (s .stored) L) b (s .search)
+      → {a : Status} → a ≡ statusOf (t .phase) → outcome (gives (countOf k a)) (movedTo s t) ≡ runCall s b
   run-is b l L e {t} {k} d {a} h =
-      ap (λ (a : Status). outcome (gives (count k a)) (movedTo s t)) h
+      ap (λ (a : Status). outcome (gives (countOf k a)) (movedTo s t)) h
       ∙ ap ranTo (d ∙ ap (λ (l : List ℤ). runOf (sourceBy (s .stored) l) b (s .search)) e)
-      ∙ at-true (s .loaded) (outcome (gives (count (made s b) (statusOf (ran s b .phase)))) (movedTo s (ran s b))) (outcome (refuses 6) s) l
+      ∙ at-true (s .loaded) (outcome (gives (countOf (made s b) (statusOf (ran s b .phase)))) (movedTo s (ran s b))) (outcome (refuses 6) s) l
 
 -- ---- load
 
@@ -82,7 +83,7 @@ pub look-empty : (s : Service) → s .loaded ≡ false → {v : Seen} → v ≡ 
 look-empty s l e = ap (λ (v : Seen). outcome v s) (e ∙ at-false (s .loaded) (seenIn (s .stored) (s .search)) nothingSeen l)
 
 -- the level in work is one of the levels
-pub level-few : (p : Stored) (q : Search) → WellFormed p → Reached (sourceOf p) q → inWork (q .phase) ≡ true → q .work .level < 8
+pub level-few : (p : Stored) (q : Search) → WellFormed p → Reached (sourceOf p) q → isInWork (q .phase) ≡ true → q .work .level < 8
 level-few p q w r h =
     let f = subst (Facts (sourceOf p) (madeBy (sourceOf p) (r .made) freshSearch)) (sym (r .is)) (reached-facts (sourceOf p) (r .source) (r .made)) in
     omega (arith, f .level h, levels-many p w, w .within .levels)
@@ -91,8 +92,8 @@ module _ (p : Stored) (w : WellFormed p) (q : Search) where
   abbrev seenBy : Status → List ℤ → ℕ → Bool → ℕ → ℕ → Seen
   seenBy a ps k m j t = seen a (q .advances) ps (take k (q .work .lowers)) (given m (take k (q .work .uppers))) j t
 
-  pub seen-is : {a : Status} → a ≡ statusOf (q .phase) → {m : Bool} → m ≡ hasModel (q .phase) → {j : ℕ} → j ≡ levelOf (q .phase) (q .work .level)
-      → {t : ℕ} → t ≡ stratumOf (q .phase) (q .work .stratum) → seenBy a (take (p .counts .levels) (p .levels)) (p .counts .levels) m j t ≡ seenIn p q
+  pub seen-is : {a : Status} → a ≡ statusOf (q .phase) → {m : Bool} → m ≡ hasModel (q .phase) → {j : ℕ} → j ≡ levelSeen (q .phase) (q .work .level)
+      → {t : ℕ} → t ≡ stratumSeen (q .phase) (q .work .stratum) → seenBy a (take (p .counts .levels) (p .levels)) (p .counts .levels) m j t ≡ seenIn p q
   seen-is {a} ea {m} em {j} ej {t} et =
       let k = p .counts .levels in
       let ps = storedProgram p .priorities in

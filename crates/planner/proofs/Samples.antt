@@ -4,13 +4,16 @@ use mathlib.Core.Bool.{true}
 use mathlib.Core.List.{List, [], _∷_}
 use Prim.Native.Nat.{ℕ, _+_}
 use lib.Dec.{ltb}
+use lib.IntN.{pos}
 use Rattle.asp.specs.Program.{All}
 use Rattle.asp.specs.Cost.{cost, cheaper}
 use Rattle.asp.proofs.Samples.{table, Right, table-right, level-by-level}
 use Rattle.aspif_lines.specs.Text.{textOf, accepted}
 use Rattle.aspif.proofs.Samples as aspif
 use Rattle.cores.specs.Identity.{violatedWeight}
-use Rattle.cores.proofs.Sample.{sevenFiveFive, sampleAfter, everything, sample-lower, sample-rests, sample-cost, sample-identity, sample-parts}
+use Rattle.cores.specs.Soft.{entry, derived}
+use Rattle.cores.specs.Level.{recorded}
+use Rattle.cores.proofs.Sample.{sevenFiveFive, sampleBefore, sampleAfter, everything, sample-before, sample-lower, sample-rests, sample-kinds, sample-cost, sample-identity, sample-parts}
 
 pub record Starred : Type 0 where
   -- exactly these stable models, at these costs: no statement; 1 if 1; 1 if not 1; 1 if not 2, 2 if not 1; choice {1}; the loop; the constraint; atom 1 twice; `plan.aspif`
@@ -18,8 +21,12 @@ pub record Starred : Type 0 where
   -- "(0, 900) is cheaper than (1, 0)"
   pub order : cheaper ltb (0 ∷ 900 ∷ []) (1 ∷ 0 ∷ []) ≡ true
   -- "Core of remaining 7, 5, 5 at stratum 5: bound up 5, then 2, 0, 0 and two new of 5; with all unmet 17 = 5 + 2 + 10."
-  pub bound : sampleAfter .lower ≡ 5
+  pub before : sampleBefore .rests ≡ 7 ∷ 5 ∷ 5 ∷ []
+  pub after : sampleAfter ≡ recorded sampleBefore 5 (0 ∷ 1 ∷ 2 ∷ [])
+  pub bound : sampleAfter .lower ≡ sampleBefore .lower + 5
   pub rests : sampleAfter .rests ≡ 2 ∷ 0 ∷ 0 ∷ 5 ∷ 5 ∷ []
+  -- the two new ones are of that core: the first holds when at most 1 member is unmet, the second when at most 2 are
+  pub kinds : sampleAfter .kinds ≡ entry (pos 1) ∷ entry (pos 2) ∷ entry (pos 3) ∷ derived 1 1 ∷ derived 1 2 ∷ []
   pub all-unmet : cost everything sevenFiveFive ≡ 17
   pub sum : cost everything sevenFiveFive ≡ sampleAfter .lower + violatedWeight everything sampleAfter
   pub parts : violatedWeight everything sampleAfter ≡ 2 + 10
@@ -31,8 +38,11 @@ pub starred : Starred
 starred = record {
   models = table-right;
   order = level-by-level;
+  before = sample-before;
+  after = refl;
   bound = sample-lower;
   rests = sample-rests;
+  kinds = sample-kinds;
   all-unmet = sample-cost;
   sum = sample-identity;
   parts = sample-parts;

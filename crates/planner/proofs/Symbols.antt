@@ -39,7 +39,7 @@ abbrev isSome : {A : Type 0} → Option A → ℕ
 isSome none = 0
 isSome (some x) = 1
 
-abbrev orElse : {A : Type 0} → A → Option A → A
+abbrev pub orElse : {A : Type 0} → A → Option A → A
 orElse d none = d
 orElse d (some x) = x
 

@@ -11,13 +11,14 @@ use Rattle.asp.specs.Program.{Program}
 use Rattle.aspif_lines.specs.Text.{Answer, accepted, refused, textOf}
 use Rattle.aspif.specs.declared.text.Stored.{Stored}
 use Rattle.optimizer.specs.declared.state.Search.{Search}
-use Rattle.optimizer.specs.Finish.{isRunning, freshSearch, advanceOf, advancesOf, madeBy}
+use Rattle.optimizer.specs.State.{isRunning, freshSearch}
+use Rattle.optimizer.specs.Advance.{advanceOf, advancesOf, madeBy}
 use Rattle.optimizer.proofs.Advancing.{advances-plus}
 use Rattle.planner.specs.declared.service.Service.{Service}
 use Rattle.planner.specs.declared.service.Status.{Status}
 use Rattle.planner.specs.declared.service.Status.the-variants as status
 use Rattle.planner.specs.Held.{service, freshService, sourceOf, statusOf}
-use Rattle.planner.specs.Calls.{Says, gives, Loads, Outcome, outcome, Fills, count, Count, TablesOf, FreshWith, AfterLoad, advanceCall, runCall, writeCall, modelCall, hasSymbol, nameCall}
+use Rattle.planner.specs.Calls.{Says, gives, Loads, Outcome, outcome, Fills, countOf, Count, TablesOf, FreshWith, AfterLoad, advanceCall, runCall, writeCall, modelCall, hasSymbol, nameCall}
 use Rattle.optimizer.specs.Facts.{hasModel}
 use Rattle.planner.specs.Tally.{Call, load, clear, advance, run, look, write, model, name, shown, Reply, Does, Tally, tally, begin, feedLoad, feedAdvance, feedRun, feed, Leads}
 use Rattle.planner.proofs.Counting.{made-plus, runs-is}
@@ -113,7 +114,7 @@ module _ (t : List ℕ) (p : Stored) (k : ℕ) where
       (ap (λ (b : Bool). pick b (m + 1) m) (runs-is (after p k .phase)) ∙ risen (isRunning (after p k .phase)) m
       ∙ ap (λ (n : ℕ). m + n) one-made ∙ sym (made-plus (sourceOf p) k 1 freshSearch))
 
-  pub run-told : (b : ℕ) → feedRun (gives (count (madeBy (sourceOf p) b (after p k)) (statusOf (advancesOf (sourceOf p) b (after p k) .phase)))) (toldAs t p k) ≡ toldAs t p (k + b)
+  pub run-told : (b : ℕ) → feedRun (gives (countOf (madeBy (sourceOf p) b (after p k)) (statusOf (advancesOf (sourceOf p) b (after p k) .phase)))) (toldAs t p k) ≡ toldAs t p (k + b)
   run-told b =
       ap₂ (λ (a : Status) (n : ℕ). tally (some t) a n)
       (ap (λ (q : Search). statusOf (q .phase)) (sym (advances-plus (sourceOf p) k b freshSearch)))

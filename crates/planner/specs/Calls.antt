@@ -23,8 +23,9 @@ use Rattle.aspif.specs.declared.write.Written.{Written}
 use Rattle.aspif.specs.declared.write.Written.the-variants as written
 use Rattle.optimizer.specs.declared.state.Phase.{Phase}
 use Rattle.optimizer.specs.declared.state.Search.{Search}
-use Rattle.optimizer.specs.Finish.{freshSearch, advanceOf, advancesOf, madeBy}
-use Rattle.optimizer.specs.Facts.{hasModel, inWork, lowersIn, uppersIn, bestIn}
+use Rattle.optimizer.specs.State.{freshSearch}
+use Rattle.optimizer.specs.Advance.{advanceOf, advancesOf, madeBy}
+use Rattle.optimizer.specs.Facts.{hasModel, isInWork, lowersIn, uppersIn, bestIn}
 use Rattle.planner.specs.declared.service.Service.{Service}
 use Rattle.planner.specs.declared.service.Status.{Status}
 use Rattle.planner.specs.declared.service.Status.the-variants as status
@@ -41,11 +42,11 @@ use Rattle.planner.specs.Held.{service, sourceOf, symbolOf, statusOf}
 
 -- ---- answers in document 01's numbers and values
 
--- what a call gives; or a refusal's number; or refusal 8, with the needed length
+-- what a call gives; or a refusal's number; or a refusal's number with the needed length
 pub data Says (A : Type 0) : Type 0 where
   gives : A → Says A
   refuses : ℕ → Says A
-  lacks : ℕ → Says A
+  refusesFor : ℕ → ℕ → Says A
 
 -- an answer, and the service after the call
 pub record Outcome (A : Type 0) : Type 0 where
@@ -115,11 +116,11 @@ pub record Count : Type 0 where
   pub made : ℕ
   pub held : Status
 
-abbrev pub count : ℕ → Status → Count
-count k a = record { made = k; held = a }
+abbrev pub countOf : ℕ → Status → Count
+countOf k a = record { made = k; held = a }
 
 abbrev pub saysRun : Running → Says Count
-saysRun (running.Made k a) = gives (count k a)
+saysRun (running.Made k a) = gives (countOf k a)
 saysRun running.NotLoaded = refuses 6
 
 -- after b advances, of which those after the end do nothing
@@ -131,7 +132,7 @@ abbrev pub made : Service → ℕ → ℕ
 made s b = madeBy (sourceOf (s .stored)) b (s .search)
 
 abbrev pub runCall : Service → ℕ → Outcome (Says Count)
-runCall s b = pick (s .loaded) (outcome (gives (count (made s b) (statusOf (ran s b .phase)))) (movedTo s (ran s b))) (outcome (refuses 6) s)
+runCall s b = pick (s .loaded) (outcome (gives (countOf (made s b) (statusOf (ran s b .phase)))) (movedTo s (ran s b))) (outcome (refuses 6) s)
 
 -- ---- look
 
@@ -162,16 +163,16 @@ seenView v =
 abbrev pub nothingSeen : Seen
 nothingSeen = seen status.Empty 0 [] [] none 0 0
 
-abbrev pub levelOf : Phase → ℕ → ℕ
-levelOf p settled = pick (inWork p) (settled + 1) 0
+abbrev pub levelSeen : Phase → ℕ → ℕ
+levelSeen p settled = pick (isInWork p) (settled + 1) 0
 
-abbrev pub stratumOf : Phase → ℕ → ℕ
-stratumOf p t = pick (inWork p) t 0
+abbrev pub stratumSeen : Phase → ℕ → ℕ
+stratumSeen p t = pick (isInWork p) t 0
 
 abbrev pub seenIn : Stored → Search → Seen
 seenIn p q =
     seen (statusOf (q .phase)) (q .advances) (storedProgram p .priorities) (lowersIn (sourceOf p) q) (given (hasModel (q .phase)) (uppersIn (sourceOf p) q))
-    (levelOf (q .phase) (q .work .level)) (stratumOf (q .phase) (q .work .stratum))
+    (levelSeen (q .phase) (q .work .level)) (stratumSeen (q .phase) (q .work .stratum))
 
 abbrev pub seenOf : Service → Seen
 seenOf s = pick (s .loaded) (seenIn (s .stored) (s .search)) nothingSeen
@@ -186,16 +187,16 @@ saysFill (fill.Length n) = gives n
 saysFill fill.NotLoaded = refuses 6
 saysFill fill.NoModel = refuses 7
 saysFill fill.NoSymbol = refuses 9
-saysFill (fill.Short n) = lacks n
+saysFill (fill.Short n) = refusesFor 8 n
 
 -- the same of aspif's write
 abbrev pub saysWritten : Written → Says ℕ
 saysWritten (written.Length n) = gives n
-saysWritten (written.Short n) = lacks n
+saysWritten (written.Short n) = refusesFor 8 n
 
 -- t at the front of the bytes b and the rest as before; or "8: lent bytes too short .. the needed length is returned", and all as before
 abbrev pub roomFor : ℕ → ℕ → Says ℕ
-roomFor size room = pick (ltb room size) (lacks size) (gives size)
+roomFor size room = pick (ltb room size) (refusesFor 8 size) (gives size)
 
 pub record Filling : Type 0 where
   pub answer : Says ℕ
@@ -245,7 +246,7 @@ nameCall s i b = pick (s .loaded) (pick (hasSymbol s i) (filled s (symbolOf (s .
 abbrev pub lengthOf : Says ℕ → ℕ
 lengthOf (gives n) = n
 lengthOf (refuses c) = 0
-lengthOf (lacks n) = 0
+lengthOf (refusesFor c n) = 0
 
 abbrev pub partOf : Says ℕ → List ℕ → List ℕ
 partOf a b = take (lengthOf a) b

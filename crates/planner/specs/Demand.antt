@@ -5,7 +5,7 @@ use mathlib.Core.List.{List, [], _∷_}
 use mathlib.Core.Option.{Option, none, some}
 use Prim.Native.Nat.{ℕ, zero, suc, _+_, _*_, _^_, _≤_, _<_, min}
 use lib.Dec.{ltb}
-use lib.ListN.{length}
+use lib.ListN.{length, getD}
 use Rattle.asp.specs.Sets.{Set}
 use Rattle.asp.specs.Program.{Program, Entry, Symbol, All, atoms}
 use Rattle.asp.specs.Stable.{Stable, shown}
@@ -16,8 +16,8 @@ use Rattle.planner.specs.declared.service.Status.{Status}
 use Rattle.planner.specs.declared.service.Status.the-variants as status
 use Rattle.planner.specs.Held.{freshService}
 use Rattle.planner.specs.Sound.{Sound}
-use Rattle.planner.specs.Calls.{gives, refuses, Fills, fills, filled, unfilled, count, nothingSeen, seenOf, writeCall, modelBytes, modelCall, nameCall, shownSays, advanceCall, runCall}
-use Rattle.planner.specs.Tally.{Call, load, Reply, Does, Tally, begin, isRunning, Leads}
+use Rattle.planner.specs.Calls.{gives, refuses, Fills, fills, filled, unfilled, countOf, nothingSeen, seenOf, writeCall, modelBytes, modelCall, nameCall, shownSays, advanceCall, runCall}
+use Rattle.planner.specs.Tally.{Call, load, Reply, Does, Tally, begin, isRunningStatus, Leads}
 
 -- ---- symbols by their position, from 0
 
@@ -64,10 +64,10 @@ Advances (suc k) s u = (seenOf s .status ≡ status.Running) × Advances k (adva
 pub record RunIs (b : ℕ) (s : Service) : Type 0 where
   pub made : ℕ
   pub held : Status
-  pub answer : runCall s b .answer ≡ gives (count made held)
+  pub answer : runCall s b .answer ≡ gives (countOf made held)
   pub advances : Advances made s (runCall s b .after)
   pub most : made ≤ b
-  pub ends : made < b → isRunning held ≡ false
+  pub ends : made < b → isRunningStatus held ≡ false
 
 -- ---- a program is loaded: P and w are the program and the text less comments of the text that the tally holds
 
@@ -88,7 +88,7 @@ pub record Claim (P : Program) (w : List ℕ) (s : Service) (T : Tally) : Type 0
   pub optimum : T .held ≡ status.Optimum → (u : List ℕ) × (seenOf s .upper ≡ some u) × ((M : Set) → Stable (P .rules) M → NoDearer ltb u (costs P M))
   -- "Once ended, the status is "incoherent" exactly when no stable model exists."
   pub incoherent : T .held ≡ status.Incoherent → (M : Set) → Stable (P .rules) M → ⊥
-  pub without : isRunning (T .held) ≡ false → ((M : Set) → Stable (P .rules) M → ⊥) → T .held ≡ status.Incoherent
+  pub without : isRunningStatus (T .held) ≡ false → ((M : Set) → Stable (P .rules) M → ⊥) → T .held ≡ status.Incoherent
   -- "With n atoms and total weight W, while the status is "running", fewer than 2^(n+1) × (2W + 1) advances have been made since the load."
   pub few : T .held ≡ status.Running → T .count < 2 ^ suc (atoms P) * (2 * W P + 1)
   -- a model needs all n atoms added, one an advance
@@ -96,6 +96,17 @@ pub record Claim (P : Program) (w : List ℕ) (s : Service) (T : Tally) : Type 0
   -- "The status is never "full" if each level weighs 90 or less."
   pub never-full : All (λ (l : List Entry). weight l ≤ 90) (levels P) → T .held ≡ status.Full → ⊥
   pub runs : (b : ℕ) → RunIs b s
+  -- one lower bound for each level
+  pub as-many : length (seenOf s .lower) ≡ length (P .priorities)
+  -- "The level in work .. is settled .. when the best model's cost there equals its lower bound; it then stays settled": those before it (from 1) are, and while the
+  -- status is running it is not; a level is in work once there is a model
+  pub settled : (u : List ℕ) → seenOf s .upper ≡ some u → (j : ℕ) → suc j < seenOf s .level → getD (seenOf s .lower) j 0 ≡ getD u j 0
+  pub in-work : T .held ≡ status.Running → (u : List ℕ) → seenOf s .upper ≡ some u → 1 ≤ seenOf s .level
+  pub unsettled : T .held ≡ status.Running → (u : List ℕ) → seenOf s .upper ≡ some u → (j : ℕ) → seenOf s .level ≡ suc j → getD (seenOf s .lower) j 0 < getD u j 0
+  -- "Levels not yet in work have lower bound 0."
+  pub later : (T .held ≡ status.Optimum → ⊥) → (j : ℕ) → seenOf s .level ≤ j → getD (seenOf s .lower) j 0 ≡ 0
+  -- "optimum (a model, every level settled)": no lower bound stays below the upper
+  pub bounds-meet : T .held ≡ status.Optimum → seenOf s .upper ≡ some (seenOf s .lower)
 
 -- ---- the claim about a service and the tally beside it
 

@@ -3,3 +3,4 @@ pub mod Sound
 pub mod Calls
 pub mod Tally
 pub mod Demand
+pub mod Alike

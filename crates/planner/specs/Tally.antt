@@ -10,7 +10,7 @@ use Rattle.planner.specs.declared.service.Service.{Service}
 use Rattle.planner.specs.declared.service.Status.{Status}
 use Rattle.planner.specs.declared.service.Status.the-variants as status
 use Rattle.planner.specs.Held.{freshService}
-use Rattle.planner.specs.Calls.{Says, gives, refuses, lacks, Loads, outcome, fills, Filling, Count, Seen, AfterLoad, advanceCall, runCall, lookCall, writeCall, modelCall, nameCall, shownCall}
+use Rattle.planner.specs.Calls.{Says, gives, refuses, refusesFor, Loads, outcome, fills, Filling, Count, Seen, AfterLoad, advanceCall, runCall, lookCall, writeCall, modelCall, nameCall, shownCall}
 
 -- ---- calls
 
@@ -63,12 +63,12 @@ tally t a k = record { text = t; held = a; count = k }
 abbrev pub begin : Tally
 begin = tally none status.Empty 0
 
-abbrev pub isRunning : Status → Bool
-isRunning status.Empty = false
-isRunning status.Running = true
-isRunning status.Optimum = false
-isRunning status.Incoherent = false
-isRunning status.Full = false
+abbrev pub isRunningStatus : Status → Bool
+isRunningStatus status.Empty = false
+isRunningStatus status.Running = true
+isRunningStatus status.Optimum = false
+isRunningStatus status.Incoherent = false
+isRunningStatus status.Full = false
 
 -- "Load of a text that keeps the rules and limits here: that text, running, 0."
 abbrev pub feedLoad : List ℕ → Answer → Tally → Tally
@@ -82,15 +82,15 @@ withText (some t) T U = U
 
 -- "Advance, with a text: the count rises by 1 if the status held is running; then the status answered is held."
 abbrev pub feedAdvance : Says Status → Tally → Tally
-feedAdvance (gives a) T = withText (T .text) T (tally (T .text) a (pick (isRunning (T .held)) (T .count + 1) (T .count)))
+feedAdvance (gives a) T = withText (T .text) T (tally (T .text) a (pick (isRunningStatus (T .held)) (T .count + 1) (T .count)))
 feedAdvance (refuses c) T = T
-feedAdvance (lacks n) T = T
+feedAdvance (refusesFor c n) T = T
 
 -- "Run, with a text: the count rises by the run's count; the status answered is held."
 abbrev pub feedRun : Says Count → Tally → Tally
 feedRun (gives x) T = withText (T .text) T (tally (T .text) (x .held) (T .count + x .made))
 feedRun (refuses c) T = T
-feedRun (lacks n) T = T
+feedRun (refusesFor c n) T = T
 
 -- "Look, write, model, and every refused call: no change."
 abbrev pub feed : (c : Call) → Reply c → Tally → Tally

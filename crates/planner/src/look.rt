@@ -6,9 +6,9 @@ use optimizer::state::Phase;
 ghost use mathlib.Core.Path.{_≡_};
 ghost use mathlib.Core.Bool.{true};
 ghost use Prim.Native.Nat.{_<_};
-ghost use Rattle.optimizer.specs.Facts.{hasModel, inWork};
+ghost use Rattle.optimizer.specs.Facts.{hasModel, isInWork};
 ghost use Rattle.planner.specs.Sound.{Sound};
-ghost use Rattle.planner.specs.Calls.{outcome, seenView, nothingSeen, levelOf, stratumOf, lookCall};
+ghost use Rattle.planner.specs.Calls.{outcome, seenView, nothingSeen, levelSeen, stratumSeen, lookCall};
 
 // What a look gives. Of priorities, lower and upper bound the first `levels` places count; there is an upper bound where `bounded`.
 pub struct View {
@@ -43,7 +43,7 @@ pub fn has_model(p: Phase) -> bool
 
 // A level is in work.
 fn in_work(p: Phase) -> bool
-    ensures { λ r. ⌜ r ≡ inWork p ⌝ }
+    ensures { λ r. ⌜ r ≡ isInWork p ⌝ }
 {
     match p {
         Phase::First => false,
@@ -56,8 +56,8 @@ fn in_work(p: Phase) -> bool
 
 // "level in work (from 1, the highest; 0 if none)"
 fn level_of(p: Phase, settled: usize) -> usize
-    requires { ⌜ (inWork p ≡ true → settled < 8) ⌝ }
-    ensures { λ r. ⌜ r ≡ levelOf p settled ⌝ }
+    requires { ⌜ (isInWork p ≡ true → settled < 8) ⌝ }
+    ensures { λ r. ⌜ r ≡ levelSeen p settled ⌝ }
 {
     if in_work(p) {
         return settled + 1;
@@ -67,7 +67,7 @@ fn level_of(p: Phase, settled: usize) -> usize
 
 // "stratum (0 if no level is in work)"
 fn stratum_of(p: Phase, stratum: u32) -> u32
-    ensures { λ r. ⌜ r ≡ stratumOf p stratum ⌝ }
+    ensures { λ r. ⌜ r ≡ stratumSeen p stratum ⌝ }
 {
     if in_work(p) {
         return stratum;

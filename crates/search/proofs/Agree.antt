@@ -17,7 +17,7 @@ use Rattle.asp.specs.Program.{Literal, Body, normal, Head, constraint, plain, c
 use Rattle.asp.specs.Stable.{holds, allHold, bodyHolds}
 use Rattle.asp.proofs.Signed.{abs-neg, clash}
 use Rattle.asp.proofs.Literals.{holds-complement}
-use Rattle.search.specs.Trail.{Marked, Trail, literal, on, NotOn, WellFormed, Agrees, InAll, trailSet}
+use Rattle.search.specs.Trail.{Marked, Trail, literalOf, on, NotOn, FormedTrail, Agrees, InAll, trailSet}
 use Rattle.search.specs.Query.{noHeadIn, brokenIn, violatedIn, Some, HoldsAll, RuleFails, SoftFails}
 use Rattle.search.proofs.Counts.{not-on, yes-or-left, yes-or-right}
 
@@ -76,7 +76,7 @@ put-off a b M (negsuc x) k h = rw (put-else (suc x) a b M k) h
 
 put-agrees : (a : ℕ) (b : Bool) (M : Set) (t : Trail) → NotOn a t → Agrees M t → Agrees (put a b M) t
 put-agrees a b M [] k g = tt
-put-agrees a b M (s ∷ t) k g = (put-off a b M (literal s) (k .0) (g .0), put-agrees a b M t (k .1) (g .1))
+put-agrees a b M (s ∷ t) k g = (put-off a b M (literalOf s) (k .0) (g .0), put-agrees a b M t (k .1) (g .1))
 
 holds-put : (l : ℤ) (M : Set) → T (holds (put (natAbs l) (not (isNegative l)) M) l)
 holds-put (pos a) M = rw (put-at a true M) tt
@@ -86,9 +86,9 @@ against : (l : ℤ) (M : Set) → T (holds (put (natAbs l) (isNegative l) M) l) 
 against (pos a) M h = rw (put-at a false M) at h
 against (negsuc a) M h = rw (put-at (suc a) true M) at h
 
-pub set-agrees : (n : ℕ) (t : Trail) → WellFormed n t → Agrees (trailSet t) t
+pub set-agrees : (n : ℕ) (t : Trail) → FormedTrail n t → Agrees (trailSet t) t
 set-agrees n [] w = tt
-set-agrees n (s ∷ t) w = (holds-put (literal s) (trailSet t), put-agrees (natAbs (literal s)) (not (isNegative (literal s))) (trailSet t) t (w .1) (set-agrees n t (w .2)))
+set-agrees n (s ∷ t) w = (holds-put (literalOf s) (trailSet t), put-agrees (natAbs (literalOf s)) (not (isNegative (literalOf s))) (trailSet t) t (w .1) (set-agrees n t (w .2)))
 
 -- ---- a set that agrees is the trail's own set on the trail's atoms
 
@@ -106,10 +106,10 @@ holds-sign M (negsuc a) h = is-false (M (suc a)) h
 
 pub set-same : (t : Trail) (M : Set) (a : ℕ) → Agrees M t → T (on t a) → M a ≡ trailSet t a
 set-same [] M a g x = absurd x
-set-same (s ∷ t) M a g x = go (eqb a (natAbs (literal s))) refl (set-same t M a (g .1))
+set-same (s ∷ t) M a g x = go (eqb a (natAbs (literalOf s))) refl (set-same t M a (g .1))
   where
-    go : (b : Bool) → eqb a (natAbs (literal s)) ≡ b → (T (on t a) → M a ≡ trailSet t a) → M a ≡ pick b (not (isNegative (literal s))) (trailSet t a)
-    go true e f = let y : a ≡ natAbs (literal s) = eqb-true a (natAbs (literal s)) e in rw y (holds-sign M (literal s) (g .0))
+    go : (b : Bool) → eqb a (natAbs (literalOf s)) ≡ b → (T (on t a) → M a ≡ trailSet t a) → M a ≡ pick b (not (isNegative (literalOf s))) (trailSet t a)
+    go true e f = let y : a ≡ natAbs (literalOf s) = eqb-true a (natAbs (literalOf s)) e in rw y (holds-sign M (literalOf s) (g .0))
     go false e f = f (rw e at x)
 
 holds-at : (M N : Set) (l : ℤ) → M (natAbs l) ≡ N (natAbs l) → holds M l ≡ holds N l
@@ -123,7 +123,7 @@ lit-all t l x M g =
     let h = and-yes (on t (natAbs l)) (holds (trailSet t) l) x in
     rw (holds-at M (trailSet t) l (set-same t M (natAbs l) g (h .0))) (h .1)
 
-pub all-lit : (n : ℕ) (t : Trail) → WellFormed n t → (l : ℤ) → InAll t (λ M. T (holds M l)) → T (litOn t l)
+pub all-lit : (n : ℕ) (t : Trail) → FormedTrail n t → (l : ℤ) → InAll t (λ M. T (holds M l)) → T (litOn t l)
 all-lit n t w l h = go (on t (natAbs l)) refl
   where
     go : (b : Bool) → on t (natAbs l) ≡ b → T (b && holds (trailSet t) l)
@@ -138,7 +138,7 @@ lits-all t (l ∷ ls) x M g =
     let h = and-yes (litOn t l) (litsOn t ls) x in
     yes-and (holds M l) (allHold M M ls) (lit-all t l (h .0) M g) (lits-all t ls (h .1) M g)
 
-pub all-lits : (n : ℕ) (t : Trail) → WellFormed n t → (ls : List ℤ) → InAll t (λ M. T (allHold M M ls)) → T (litsOn t ls)
+pub all-lits : (n : ℕ) (t : Trail) → FormedTrail n t → (ls : List ℤ) → InAll t (λ M. T (allHold M M ls)) → T (litsOn t ls)
 unfolding litsOn allHold
 all-lits n t w [] h = tt
 all-lits n t w (l ∷ ls) h =
@@ -156,7 +156,7 @@ head-all n t constraint i x M g = tt
 head-all n t (plain h) i x M g = rw (← head-is M h (i .0)) (lit-all t (negℤ (pos h)) x M g)
 head-all n t (choice hs) i x M g = x
 
-all-head : (n : ℕ) (t : Trail) → WellFormed n t → (h : Head) → HeadIn n h → InAll t (λ M. T (noHeadIn M h)) → T (headOn t h)
+all-head : (n : ℕ) (t : Trail) → FormedTrail n t → (h : Head) → HeadIn n h → InAll t (λ M. T (noHeadIn M h)) → T (headOn t h)
 all-head n t w constraint i k = tt
 all-head n t w (plain h) i k = all-lit n t w (negℤ (pos h)) (λ M g. rw (head-is M h (i .0)) (k M g))
 all-head n t w (choice hs) i k = k (trailSet t) (set-agrees n t w)
@@ -164,7 +164,7 @@ all-head n t w (choice hs) i k = k (trailSet t) (set-agrees n t w)
 body-all : (t : Trail) (b : Body) → T (bodyOn t b) → InAll t (λ M. T (bodyHolds M M b))
 body-all t (normal ls) x = lits-all t ls x
 
-all-body : (n : ℕ) (t : Trail) → WellFormed n t → (b : Body) → InAll t (λ M. T (bodyHolds M M b)) → T (bodyOn t b)
+all-body : (n : ℕ) (t : Trail) → FormedTrail n t → (b : Body) → InAll t (λ M. T (bodyHolds M M b)) → T (bodyOn t b)
 all-body n t w (normal ls) k = all-lits n t w ls k
 
 -- A rule is broken in every set that agrees just if all its conditions are on the trail.
@@ -173,7 +173,7 @@ rule-all n t r i x M g =
     let h = and-yes (headOn t (r .head)) (bodyOn t (r .body)) x in
     yes-and (noHeadIn M (r .head)) (bodyHolds M M (r .body)) (head-all n t (r .head) (i .0) (h .0) M g) (body-all t (r .body) (h .1) M g)
 
-pub all-rule : (n : ℕ) (t : Trail) → WellFormed n t → (r : Rule) → RuleIn n r → InAll t (λ M. T (brokenIn M r)) → T (ruleOn t r)
+pub all-rule : (n : ℕ) (t : Trail) → FormedTrail n t → (r : Rule) → RuleIn n r → InAll t (λ M. T (brokenIn M r)) → T (ruleOn t r)
 all-rule n t w r i k =
     yes-and (headOn t (r .head)) (bodyOn t (r .body))
     (all-head n t w (r .head) (i .0) (λ M g. and-yes (noHeadIn M (r .head)) (bodyHolds M M (r .body)) (k M g) .0))
@@ -184,7 +184,7 @@ unfolding rulesOn
 rules-all n t [] i x = x
 rules-all n t (r ∷ rs) i x = ⊎-map (rule-all n t r (i .0)) (rules-all n t rs (i .1)) (or-yes (ruleOn t r) (rulesOn t rs) x)
 
-pub all-rules : (n : ℕ) (t : Trail) → WellFormed n t → (rs : List Rule) → All (RuleIn n) rs → RuleFails t rs → T (rulesOn t rs)
+pub all-rules : (n : ℕ) (t : Trail) → FormedTrail n t → (rs : List Rule) → All (RuleIn n) rs → RuleFails t rs → T (rulesOn t rs)
 unfolding rulesOn
 all-rules n t w [] i k = k
 all-rules n t w (r ∷ rs) i (inl k) = yes-or-left (ruleOn t r) (rulesOn t rs) (all-rule n t w r (i .0) k)
@@ -198,20 +198,20 @@ violated-is M l h = sym (holds-complement M l h)
 pub soft-all : (t : Trail) (l : ℤ) → 1 ≤ natAbs l → T (softOn t l) → InAll t (λ M. T (violatedIn M l))
 soft-all t l h x M g = rw (violated-is M l h) (lit-all t (negℤ l) x M g)
 
-pub all-soft : (n : ℕ) (t : Trail) → WellFormed n t → (l : ℤ) → 1 ≤ natAbs l → InAll t (λ M. T (violatedIn M l)) → T (softOn t l)
+pub all-soft : (n : ℕ) (t : Trail) → FormedTrail n t → (l : ℤ) → 1 ≤ natAbs l → InAll t (λ M. T (violatedIn M l)) → T (softOn t l)
 all-soft n t w l h k = all-lit n t w (negℤ l) (λ M g. rw (violated-is M l h) at (k M g))
 
 -- ---- a set with no atom outside 1 to n that agrees with a trail that holds all n atoms is the trail's set
 
-pub set-only : (n : ℕ) (t : Trail) → WellFormed n t → Only n (trailSet t)
+pub set-only : (n : ℕ) (t : Trail) → FormedTrail n t → Only n (trailSet t)
 set-only n t w = record { only = λ a x. go n t w a x }
   where
-    go : (n : ℕ) (t : Trail) → WellFormed n t → (a : ℕ) → T (trailSet t a) → In n a
+    go : (n : ℕ) (t : Trail) → FormedTrail n t → (a : ℕ) → T (trailSet t a) → In n a
     go n [] w a x = absurd x
-    go n (s ∷ t) w a x = by (eqb a (natAbs (literal s))) refl x (go n t (w .2) a)
+    go n (s ∷ t) w a x = by (eqb a (natAbs (literalOf s))) refl x (go n t (w .2) a)
       where
-        by : (b : Bool) → eqb a (natAbs (literal s)) ≡ b → T (pick b (not (isNegative (literal s))) (trailSet t a)) → (T (trailSet t a) → In n a) → In n a
-        by true e y r = subst (In n) (sym (eqb-true a (natAbs (literal s)) e)) (w .0)
+        by : (b : Bool) → eqb a (natAbs (literalOf s)) ≡ b → T (pick b (not (isNegative (literalOf s))) (trailSet t a)) → (T (trailSet t a) → In n a) → In n a
+        by true e y r = subst (In n) (sym (eqb-true a (natAbs (literalOf s)) e)) (w .0)
         by false e y r = r y
 
 in-or : (n a : ℕ) → In n a ⊎ (¬ In n a)
@@ -221,7 +221,7 @@ outside : (b : Bool) → (T b → ⊥) → b ≡ false
 outside true k = absurd (k tt)
 outside false k = refl
 
-pub full-is : (n : ℕ) (t : Trail) → WellFormed n t → HoldsAll n t → (M : Set) → Only n M → Agrees M t → M ≡ trailSet t
+pub full-is : (n : ℕ) (t : Trail) → FormedTrail n t → HoldsAll n t → (M : Set) → Only n M → Agrees M t → M ≡ trailSet t
 full-is n t w f M k g = fun-ext (λ a. go a (in-or n a))
   where
     go : (a : ℕ) → In n a ⊎ (¬ In n a) → M a ≡ trailSet t a

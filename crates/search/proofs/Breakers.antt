@@ -21,7 +21,7 @@ use Rattle.search.specs.declared.scan.Rest.{Rest}
 use Rattle.search.specs.declared.scan.Rest.the-variants.{All, One, Off}
 use Rattle.search.specs.declared.scan.Found.{Found}
 use Rattle.search.specs.declared.scan.Found.the-variants.{Broken, Breaker, Clear}
-use Rattle.search.specs.Trail.{decision, Trail, on, NotOn, WellFormed, InAll, trailSet}
+use Rattle.search.specs.Trail.{decision, Trail, on, NotOn, FormedTrail, InAll, trailSet}
 use Rattle.search.specs.Query.{brokenIn}
 use Rattle.search.specs.Places.{truthOf, truthAt, valueOn}
 use Rattle.search.specs.Scan.{Rules, rules, rowOf, conditions, freeOf, meetOf, meets, begins, restOf, isAll, noteOf, scanFrom, scanOf}
@@ -29,7 +29,7 @@ use Rattle.search.proofs.ScanLaws.{off-stays}
 use Rattle.search.proofs.Counts.{not-on, on-not}
 use Rattle.search.proofs.Agree.{litOn, litsOn, ruleOn, rule-all, all-rule}
 use Rattle.search.proofs.TrailTables.{Valued, value-off}
-use Rattle.search.specs.Soft.{Assumed, FormedSoft}
+use Rattle.search.specs.Soft.{AssumedEntries, FormedSoft}
 use Rattle.search.specs.Branch.{NotedAs}
 use Rattle.search.proofs.Formed.{rule-in}
 use Rattle.search.proofs.Opens.{Undecided, zero-off, scan-undecided}
@@ -229,7 +229,7 @@ module _ (q : ℕ → Rest) where
       go true c = tt
       go false c = let z : r + 1 + k ≡ r + suc k = omega arith in rw z at c
 
-module _ (n : ℕ) (pool : List ℤ) (rows : List ℕ) (count : ℕ) (f : Formed n pool rows count) (v : List ℕ) (t : Trail) (w : Valued v t) (wf : WellFormed n t) where
+module _ (n : ℕ) (pool : List ℤ) (rows : List ℕ) (count : ℕ) (f : Formed n pool rows count) (v : List ℕ) (t : Trail) (w : Valued v t) (wf : FormedTrail n t) where
   -- rule r is broken in every set that agrees with the trail and l
   abbrev pub Breaks : ℤ → ℕ → Type 0
   Breaks l r = InAll (decision l ∷ t) (λ M. T (brokenIn M (ruleAt pool (rowAt rows r))))
@@ -264,7 +264,7 @@ module _ (n : ℕ) (pool : List ℤ) (rows : List ℕ) (count : ℕ) (f : Formed
   says-noted Clear u b h = λ j k. no-breaker j k (b j k) (h j k)
 
   -- The scan notes the first literal that would break a rule if added.
-  pub noted-says : (s : Assumed) → FormedSoft n s → NotedSays (scanOf (rules pool rows count) v)
+  pub noted-says : (s : AssumedEntries) → FormedSoft n s → NotedSays (scanOf (rules pool rows count) v)
   noted-says s q =
       says-noted (scanOf (rules pool rows count) v) (scan-undecided n pool rows count f s q v) (scan-says n pool rows count f v t w)
       (let z : 0 + count ≡ count = omega arith in rw z at (from-left (restOf (rules pool rows count) v) Clear 0 count (λ j k. absurd (omega arith))))

@@ -12,7 +12,7 @@ use lib.ListN.{length}
 use mir.Facts.{or-yes, eqb-yes, yes-eqb}
 use borrow.Author.Tests.{ne-eqb, eqb-true, eqb-false}
 use Rattle.asp.specs.Sets.{Set, In}
-use Rattle.search.specs.Trail.{Trail, literal, on, NotOn, WellFormed}
+use Rattle.search.specs.Trail.{Trail, literalOf, on, NotOn, FormedTrail}
 
 abbrev bit : Bool → ℕ
 bit true = 1
@@ -89,13 +89,13 @@ yes-or-right false y t = t
 pub not-on : (t : Trail) (a : ℕ) → (¬ T (on t a)) → NotOn a t
 not-on [] a h = tt
 not-on (s ∷ t) a h = (
-  λ e. h (yes-or-left (eqb a (natAbs (literal s))) (on t a) (yes-eqb e)),
-  not-on t a (λ x. h (yes-or-right (eqb a (natAbs (literal s))) (on t a) x)),
+  λ e. h (yes-or-left (eqb a (natAbs (literalOf s))) (on t a) (yes-eqb e)),
+  not-on t a (λ x. h (yes-or-right (eqb a (natAbs (literalOf s))) (on t a) x)),
 )
 
 pub on-not : (t : Trail) (a : ℕ) → NotOn a t → ¬ T (on t a)
 on-not [] a h x = x
-on-not (s ∷ t) a h x = ⊎-elim (λ e. h .0 (eqb-yes e)) (on-not t a (h .1)) (or-yes (eqb a (natAbs (literal s))) (on t a) x)
+on-not (s ∷ t) a h x = ⊎-elim (λ e. h .0 (eqb-yes e)) (on-not t a (h .1)) (or-yes (eqb a (natAbs (literalOf s))) (on t a) x)
 
 on-le : (n : ℕ) (t : Trail) → count n (on t) ≤ length t
 on-le n [] = none-on n
@@ -103,17 +103,17 @@ on-le n [] = none-on n
     none-on : (n : ℕ) → count n (on []) ≤ 0
     none-on zero = omega arith
     none-on (suc n) = omega (arith, none-on n)
-on-le n (s ∷ t) = omega (arith, count-more n (natAbs (literal s)) (on t), on-le n t)
+on-le n (s ∷ t) = omega (arith, count-more n (natAbs (literalOf s)) (on t), on-le n t)
 
-on-count : (n : ℕ) (t : Trail) → WellFormed n t → length t ≤ count n (on t)
+on-count : (n : ℕ) (t : Trail) → FormedTrail n t → length t ≤ count n (on t)
 on-count n [] w = omega arith
-on-count n (s ∷ t) w = omega (arith, on-count n t (w .2), count-new n (natAbs (literal s)) (on t) (w .0) (on-not t (natAbs (literal s)) (w .1)))
+on-count n (s ∷ t) w = omega (arith, on-count n t (w .2), count-new n (natAbs (literalOf s)) (on t) (w .0) (on-not t (natAbs (literalOf s)) (w .1)))
 
 -- a well-formed trail has at most n literals, and fewer if an atom is not on it
-pub short : (n : ℕ) (t : Trail) → WellFormed n t → length t ≤ n
+pub short : (n : ℕ) (t : Trail) → FormedTrail n t → length t ≤ n
 short n t w = omega (arith, on-count n t w, count-le n (on t))
 
-pub off-short : (n : ℕ) (t : Trail) (a : ℕ) → WellFormed n t → In n a → (¬ T (on t a)) → length t < n
+pub off-short : (n : ℕ) (t : Trail) (a : ℕ) → FormedTrail n t → In n a → (¬ T (on t a)) → length t < n
 off-short n t a w i h = omega (arith, on-count n t w, count-new n a (on t) i h, count-le n (more a (on t)))
 
 -- one with fewer than n literals does not hold all n atoms
@@ -121,7 +121,7 @@ pub short-off : (n : ℕ) (t : Trail) → length t < n → ((a : ℕ) → In n a
 short-off n t h f = omega (arith, count-all n (on t) f, on-le n t)
 
 -- and one with n does
-pub all-on : (n : ℕ) (t : Trail) → WellFormed n t → n ≤ length t → (a : ℕ) → In n a → T (on t a)
+pub all-on : (n : ℕ) (t : Trail) → FormedTrail n t → n ≤ length t → (a : ℕ) → In n a → T (on t a)
 all-on n t w h a i = go (on t a) refl
   where
     go : (b : Bool) → on t a ≡ b → T b

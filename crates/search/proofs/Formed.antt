@@ -14,7 +14,7 @@ use Rattle.asp.specs.Sets.{In, pick}
 use Rattle.asp.specs.Program.{Literal, Head, constraint, plain, choice, Rule, All, LiteralIn, BodyIn, HeadIn, RuleIn}
 use Rattle.asp.specs.Tables.{span, literalsAt, named, atomsAt, Row, rowAt, plainHead, headAt, bodyAt, ruleAt, rulesOf, RowIn, Formed}
 use Rattle.search.specs.Scan.{rules, rowOf, Readable}
-use Rattle.search.specs.Soft.{Assumed, wishedAt, ReadableWishes, ReadableSoft, FormedSoft}
+use Rattle.search.specs.Soft.{AssumedEntries, wishedAt, ReadableWishes, ReadableSoft, FormedSoft}
 
 -- what holds of all of a span holds at each place
 pub all-span : {A : Type 0} (P : A → Type 0) (f : ℕ → A) (i k : ℕ) → All P (span f i k) → (j : ℕ) → i ≤ j → j < i + k → P (f j)
@@ -76,7 +76,7 @@ module _ (n : ℕ) (pool : List ℤ) (rows : List ℕ) (count : ℕ) (f : Formed
     small = λ r h k a b. omega (arith, f .few, atom-in r h k a b .1);
   }
 
-pub readable-soft : (n : ℕ) (s : Assumed) → n ≤ 1024 → FormedSoft n s → ReadableSoft s
+pub readable-soft : (n : ℕ) (s : AssumedEntries) → n ≤ 1024 → FormedSoft n s → ReadableSoft s
 readable-soft n s h f = record {
   wishes = record { long = f .wished-long; small = λ i l. omega (arith, f .atoms i l .1) };
   long = f .blamed-long;

@@ -17,4 +17,4 @@ pub mod Opens
 pub mod Breakers
 pub mod Steps
 pub mod Kept
-pub mod Answers
+pub mod ByRules

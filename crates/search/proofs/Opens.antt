@@ -15,10 +15,10 @@ use Rattle.asp.specs.Tables.{Formed}
 use Rattle.asp.proofs.Signed.{abs-neg}
 use Rattle.search.specs.declared.scan.Found.{Found}
 use Rattle.search.specs.declared.scan.Found.the-variants.{Broken, Breaker, Clear}
-use Rattle.search.specs.Trail.{Marked, Trail, literal, on, NotOn}
+use Rattle.search.specs.Trail.{Marked, Trail, literalOf, on, NotOn}
 use Rattle.search.specs.Places.{sideOf, truthOf, truthAt, valueOn}
 use Rattle.search.specs.Scan.{Rules, rules, rowOf, condAt, scanOf}
-use Rattle.search.specs.Soft.{Assumed, wishedAt, wishOf, FormedSoft}
+use Rattle.search.specs.Soft.{AssumedEntries, wishedAt, wishOf, FormedSoft}
 use Rattle.search.specs.Branch.{lowestFrom, lowestOf, freeBranch, branchOf, NotedAs}
 use Rattle.search.proofs.BranchLaws.{lowest-le}
 use Rattle.search.proofs.NotedLaws.{noted-as}
@@ -42,11 +42,11 @@ side-some l = go (isNegative l)
 
 pub zero-off : (t : Trail) (a : ℕ) → valueOn t a ≡ 0 → NotOn a t
 zero-off [] a h = tt
-zero-off (s ∷ t) a h = go (eqb a (natAbs (literal s))) refl h (zero-off t a)
+zero-off (s ∷ t) a h = go (eqb a (natAbs (literalOf s))) refl h (zero-off t a)
   where
-    go : (b : Bool) → eqb a (natAbs (literal s)) ≡ b → pick b (sideOf (literal s)) (valueOn t a) ≡ 0 → (valueOn t a ≡ 0 → NotOn a t) → (¬ (a ≡ natAbs (literal s))) × NotOn a t
-    go true e h r = absurd (side-some (literal s) h)
-    go false e h r = (eqb-false a (natAbs (literal s)) e, r h)
+    go : (b : Bool) → eqb a (natAbs (literalOf s)) ≡ b → pick b (sideOf (literalOf s)) (valueOn t a) ≡ 0 → (valueOn t a ≡ 0 → NotOn a t) → (¬ (a ≡ natAbs (literalOf s))) × NotOn a t
+    go true e h r = absurd (side-some (literalOf s) h)
+    go false e h r = (eqb-false a (natAbs (literalOf s)) e, r h)
 
 decided-on : (t : Trail) (a : ℕ) → (¬ (valueOn t a ≡ 0)) → T (on t a)
 decided-on t a h = go (on t a) refl
@@ -110,7 +110,7 @@ cond-in : (n : ℕ) (b : Bool) (z : ℤ) → In n (natAbs z) → In n (natAbs (p
 cond-in n true z h = rw abs-neg h
 cond-in n false z h = h
 
-module _ (n : ℕ) (pool : List ℤ) (rows : List ℕ) (count : ℕ) (f : Formed n pool rows count) (s : Assumed) (q : FormedSoft n s) (v : List ℕ) where
+module _ (n : ℕ) (pool : List ℤ) (rows : List ℕ) (count : ℕ) (f : Formed n pool rows count) (s : AssumedEntries) (q : FormedSoft n s) (v : List ℕ) where
   pub scan-undecided : NotedAs (Undecided n v) (scanOf (rules pool rows count) v)
   scan-undecided = noted-as (Undecided n v) (rules pool rows count) v (λ r b k x y z.
       let g : Rules = rules pool rows count in

@@ -14,7 +14,8 @@ use mir.Syntax.{w32}
 use mir.Val.{toZ, ofZ}
 use mir.Facts.{toZ-ofZ}
 use Rattle.asp.proofs.Signed.{abs-neg, small-fits}
-use Rattle.search.specs.Places.{Places, places, putOf, dropOf, backFrom, backOf, Good}
+use Rattle.search.specs.declared.trail.Places.{Places}
+use Rattle.search.specs.Places.{places, putOf, dropOf, backFrom, backOf, Good}
 
 small-set : (ls : List ℤ) (k : ℕ) (l : ℤ) → k < length ls → natAbs l ≤ 1024 → ((i : ℕ) → natAbs (getD ls i (pos 0)) ≤ 1024) → (i : ℕ) → natAbs (getD (set ls k l) i (pos 0)) ≤ 1024
 small-set ls k l h s all i = go (eqb i k) refl

@@ -22,10 +22,10 @@ use Rattle.search.specs.declared.scan.Found.{Found}
 use Rattle.search.specs.declared.scan.Found.the-variants.{Broken, Breaker, Clear}
 use Rattle.search.specs.declared.soft.Violation.{Violation}
 use Rattle.search.specs.declared.soft.Violation.the-variants.{At, Unviolated}
-use Rattle.search.specs.Trail.{Marked, Trail, literal, on, trailSet}
+use Rattle.search.specs.Trail.{Marked, Trail, literalOf, on, trailSet}
 use Rattle.search.specs.Places.{sideOf, truthOf, truthAt, valueOn}
 use Rattle.search.specs.Scan.{Rules, rules, rowOf, condAt, conditions, freeOf, meetOf, meets, begins, restOf, isAll, noteOf, scanFrom, scanOf}
-use Rattle.search.specs.Soft.{Assumed, wishedAt, judgedAt, firstOf, violatedFrom, violatedOf, FormedSoft}
+use Rattle.search.specs.Soft.{AssumedEntries, wishedAt, judgedAt, firstOf, violatedFrom, violatedOf, FormedSoft}
 use Rattle.search.proofs.ScanLaws.{off-stays}
 use Rattle.search.proofs.StepLaws.{NotBroken}
 use Rattle.search.proofs.Agree.{litOn, litsOn, headOn, bodyOn, ruleOn, rulesOn, softOn}
@@ -50,11 +50,11 @@ true-here (negsuc a) (negsuc b) = refl
 
 true-at : (t : Trail) (l : ℤ) (a : ℕ) → eqb (truthOf l (valueOn t a)) 1 ≡ (on t a && by (trailSet t a) l)
 true-at [] l a = refl
-true-at (s ∷ t) l a = go (eqb a (natAbs (literal s))) (true-at t l a)
+true-at (s ∷ t) l a = go (eqb a (natAbs (literalOf s))) (true-at t l a)
   where
     go : (b : Bool) → eqb (truthOf l (valueOn t a)) 1 ≡ (on t a && by (trailSet t a) l)
-        → eqb (truthOf l (pick b (sideOf (literal s)) (valueOn t a))) 1 ≡ ((b || on t a) && by (pick b (not (isNegative (literal s))) (trailSet t a)) l)
-    go true h = true-here l (literal s)
+        → eqb (truthOf l (pick b (sideOf (literalOf s)) (valueOn t a))) 1 ≡ ((b || on t a) && by (pick b (not (isNegative (literalOf s))) (trailSet t a)) l)
+    go true h = true-here l (literalOf s)
     go false h = h
 
 false-here : (l x : ℤ) → 1 ≤ natAbs l → eqb (truthOf l (sideOf x)) 2 ≡ by (not (isNegative x)) (negℤ l)
@@ -66,11 +66,11 @@ false-here (negsuc a) (negsuc b) h = refl
 
 false-at : (t : Trail) (l : ℤ) (a : ℕ) → 1 ≤ natAbs l → eqb (truthOf l (valueOn t a)) 2 ≡ (on t a && by (trailSet t a) (negℤ l))
 false-at [] l a h = refl
-false-at (s ∷ t) l a h = go (eqb a (natAbs (literal s))) (false-at t l a h)
+false-at (s ∷ t) l a h = go (eqb a (natAbs (literalOf s))) (false-at t l a h)
   where
     go : (b : Bool) → eqb (truthOf l (valueOn t a)) 2 ≡ (on t a && by (trailSet t a) (negℤ l))
-        → eqb (truthOf l (pick b (sideOf (literal s)) (valueOn t a))) 2 ≡ ((b || on t a) && by (pick b (not (isNegative (literal s))) (trailSet t a)) (negℤ l))
-    go true q = false-here l (literal s) h
+        → eqb (truthOf l (pick b (sideOf (literalOf s)) (valueOn t a))) 2 ≡ ((b || on t a) && by (pick b (not (isNegative (literalOf s))) (trailSet t a)) (negℤ l))
+    go true q = false-here l (literalOf s) h
     go false q = q
 
 -- ---- the conditions of a rule
@@ -218,7 +218,7 @@ abbrev SoFar : (ℕ → Bool) → (ℕ → Bool) → ℕ → Violation → Type 
 SoFar f b i (At m) = (m < i) × (f m ≡ true) × ((j : ℕ) → j < i → f j ≡ true → b j ≡ false)
 SoFar f b i Unviolated = (j : ℕ) → j < i → f j ≡ false
 
-module _ (s : Assumed) (v : List ℕ) where
+module _ (s : AssumedEntries) (v : List ℕ) where
   abbrev isViolated : ℕ → Bool
   isViolated i = eqb (judgedAt s v i) 2
 
@@ -284,7 +284,7 @@ violated-as f g b k (At i) e h = (h .0, sym (e i (h .0)) ∙ h .1, go (h .2))
     go (inr q) = inr (λ j l z. q j l (e j l ∙ z))
 violated-as f g b k Unviolated e h = λ j l. sym (e j l) ∙ h j l
 
-module _ (n : ℕ) (s : Assumed) (f : FormedSoft n s) (v : List ℕ) (t : Trail) (w : Valued v t) where
+module _ (n : ℕ) (s : AssumedEntries) (f : FormedSoft n s) (v : List ℕ) (t : Trail) (w : Valued v t) where
   -- The scan finds one that fails on the trail, blamed already if there is such a one; or that none fails.
   pub violated-says : ViolatedSays (λ (i : ℕ). softOn t (wishedAt s i)) (λ (i : ℕ). eqb (getD (s .blamed) i 0) 1) (s .count) (violatedOf s v)
   violated-says =

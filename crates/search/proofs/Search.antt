@@ -1,5 +1,5 @@
--- The search, for any class of sets that is sought, any soft literals that are assumed, and any test of a trail that is right (`Right`): what it answers is
--- right, its trail stays well formed, it ends within 2 ^ (n + 1) - 1 steps. DESIGN, "Why it is true" 2. Assumes nothing.
+-- The search, for any class of sets that is sought, any soft literals that are assumed, and any test of a trail that is right (`Says`): an advance keeps what was
+-- refuted refuted and the trail well formed, and its count stays within what the trail has spent, below 2 ^ (n + 1) - 1. Assumes nothing.
 use mathlib.Core.Path.{_≡_, refl, sym, ap, _∙_, subst}
 use mathlib.Core.Bool.{Bool, true, false, not, _&&_, _||_}
 use mathlib.Core.List.{List, [], _∷_}
@@ -16,8 +16,8 @@ use Rattle.asp.specs.Program.{Literal, All}
 use Rattle.asp.specs.Stable.{holds, member}
 use Rattle.asp.proofs.Signed.{abs-neg}
 use Rattle.asp.proofs.Literals.{holds-complement}
-use Rattle.search.specs.Trail.{Marked, decision, flipped, Trail, literal, NotOn, WellFormed, Agrees, trailSet, flip}
-use Rattle.search.specs.Machine.{Verdict, open′, conflict, wanted, State, running, without, model, blame, resume, advance, step, after}
+use Rattle.search.specs.Trail.{Marked, decision, flipped, Trail, literalOf, NotOn, FormedTrail, Agrees, trailSet, flip}
+use Rattle.search.specs.Machine.{Verdict, open′, conflict, wanted, QueryState, running, without, model, blame, resume, advanceBy}
 use Rattle.search.proofs.Spent.{spent, spent-le, Dearer, flip-dearer}
 
 -- ---- what is refuted
@@ -44,7 +44,7 @@ TriedOr Goal (some t) = Tried Goal t
 
 -- ---- what a cut keeps
 
-pub flip-formed : (n : ℕ) (t : Trail) → WellFormed n t → OnSome (WellFormed n) (flip t)
+pub flip-formed : (n : ℕ) (t : Trail) → FormedTrail n t → OnSome (FormedTrail n) (flip t)
 flip-formed n [] w = tt
 flip-formed n (decision l ∷ t) w = rw abs-neg w
 flip-formed n (flipped l ∷ t) w = flip-formed n t (w .2)
@@ -63,7 +63,7 @@ module _ (Goal : Set → Type 0) where
       go true e = d₂ M g (rw e tt, a)
       go false e = d₁ M g (rw (holds-complement M l h, e) tt, a)
 
-  pub flip-tried : (n : ℕ) (t : Trail) → WellFormed n t → Tried Goal t → Dead Goal t → TriedOr Goal (flip t)
+  pub flip-tried : (n : ℕ) (t : Trail) → FormedTrail n t → Tried Goal t → Dead Goal t → TriedOr Goal (flip t)
   flip-tried n [] w r d = λ M g. d M g tt
   flip-tried n (decision l ∷ t) w r d = (λ M g a. d M g (rw negℤ-negℤ at (a .0), a .1), r)
   flip-tried n (flipped l ∷ t) w r d = flip-tried n t (w .2) (r .1) (both-dead l t (w .0 .0) (r .0) d)
@@ -163,14 +163,10 @@ module _ (P : Problem) where
   Says t (conflict (some m)) = Assumed m × Dead (λ M. Class M × Met M m) t
   Says t wanted = Sought (trailSet t)
 
-  -- the test is right
-  abbrev pub Right : (Trail → List ℕ → Verdict) → Type 0
-  Right test = (t : Trail) (ms : List ℕ) → WellFormed n t → Says t (test t ms)
-
   -- ---- the invariant
 
   pub record GoodTrail (t : Trail) (ms : List ℕ) : Type 0 where
-    pub formed : WellFormed n t
+    pub formed : FormedTrail n t
     pub short : length t ≤ n
     pub tried : Tried (Meets ms) t
     pub distinct : Distinct ms
@@ -182,7 +178,7 @@ module _ (P : Problem) where
     pub distinct : Distinct ms
     pub assumed : All Assumed ms
 
-  abbrev pub Good : State → Type 0
+  abbrev pub Good : QueryState → Type 0
   Good (running t ms) = GoodTrail t ms
   Good (without ms) = NoneMeets ms
   Good (model M) = Sought M
@@ -190,7 +186,7 @@ module _ (P : Problem) where
   pub good-start : GoodTrail [] []
   good-start = record { formed = tt; short = omega arith; tried = tt; distinct = tt; assumed = tt }
 
-  good-resume : (o : Option Trail) (ms : List ℕ) → OnSome (WellFormed n) o → OnSome (λ t. length t ≤ n) o → TriedOr (Meets ms) o → Distinct ms → All Assumed ms → Good (resume o ms)
+  good-resume : (o : Option Trail) (ms : List ℕ) → OnSome (FormedTrail n) o → OnSome (λ t. length t ≤ n) o → TriedOr (Meets ms) o → Distinct ms → All Assumed ms → Good (resume o ms)
   good-resume none ms w h r d a = record { none-meets = r; distinct = d; assumed = a }
   good-resume (some t) ms w h r d a = record { formed = w; short = h; tried = r; distinct = d; assumed = a }
 
@@ -211,7 +207,7 @@ module _ (P : Problem) where
   conflict-assumed t (some m) r = r .0
 
   -- an advance keeps it: what a program's loop cites, for what its own test has said
-  pub good-advance : (t : Trail) (ms : List ℕ) (x : Verdict) → Says t x → GoodTrail t ms → Good (advance x t ms)
+  pub good-advance : (t : Trail) (ms : List ℕ) (x : Verdict) → Says t x → GoodTrail t ms → Good (advanceBy x t ms)
   good-advance t ms (open′ l) r g = record { formed = (r .1, r .2, g .formed); short = r .0; tried = g .tried; distinct = g .distinct; assumed = g .assumed }
   good-advance t ms (conflict b) r g =
       good-cut t b ms (blame b ms) r (λ Q a. blame-all Q b ms a) (blame-distinct b ms (g .distinct)) (blame-keeps Assumed b ms (conflict-assumed t b r) (g .assumed)) g
@@ -219,7 +215,7 @@ module _ (P : Problem) where
 
   -- ---- the count: k steps were made at most, as the trail says
 
-  abbrev pub Paid : ℕ → State → Type 0
+  abbrev pub Paid : ℕ → QueryState → Type 0
   Paid k (running t ms) = k ≤ spent n t
   Paid k (without ms) = k + 1 ≤ 2 ^ suc n
   Paid k (model M) = k + 1 ≤ 2 ^ suc n
@@ -228,70 +224,7 @@ module _ (P : Problem) where
   paid-resume k b none ms h l d = omega arith
   paid-resume k b (some t) ms h l d = omega arith
 
-  pub paid-advance : (k : ℕ) (t : Trail) (ms : List ℕ) (x : Verdict) → length t ≤ n → k ≤ spent n t → Paid (suc k) (advance x t ms)
+  pub paid-advance : (k : ℕ) (t : Trail) (ms : List ℕ) (x : Verdict) → length t ≤ n → k ≤ spent n t → Paid (suc k) (advanceBy x t ms)
   paid-advance k t ms (open′ l) h c = omega arith
   paid-advance k t ms (conflict b) h c = paid-resume k (spent n t) (flip t) (blame b ms) c (spent-le n t h) (flip-dearer n t h)
   paid-advance k t ms wanted h c = omega (arith, spent-le n t h)
-
-  -- ---- the theorems
-
-  module _ (test : Trail → List ℕ → Verdict) (R : Right test) where
-    good-step : (s : State) → Good s → Good (step test s)
-    good-step (running t ms) g = good-advance t ms (test t ms) (R t ms (g .formed)) g
-    good-step (without ms) g = g
-    good-step (model M) g = g
-
-    pub good-after : (k : ℕ) → Good (after test k)
-    good-after zero = good-start
-    good-after (suc k) = good-step (after test k) (good-after k)
-
-    -- the trail stays well formed: no atom twice, each of 1 to n, at most n literals
-    pub trail-good : (k : ℕ) (t : Trail) (ms : List ℕ) → after test k ≡ running t ms → GoodTrail t ms
-    trail-good k t ms e = rw e at (good-after k)
-
-    -- it ends without a model only if no set of the class meets the blamed ones, which are assumed, none twice
-    pub core : (k : ℕ) (ms : List ℕ) → after test k ≡ without ms → NoneMeets ms
-    core k ms e = rw e at (good-after k)
-
-    all-met : (Q : ℕ → Type 0) (ms : List ℕ) → ((m : ℕ) → Assumed m → Q m) → All Assumed ms → All Q ms
-    all-met Q [] f a = tt
-    all-met Q (m ∷ ms) f a = (f m (a .0), all-met Q ms f (a .1))
-
-    -- so it has none then
-    pub complete : (k : ℕ) (ms : List ℕ) → after test k ≡ without ms → (M : Set) → Sought M → ⊥
-    complete k ms e M s = let c = core k ms e in c .none-meets M (s .0, all-met (Met M) ms (s .1) (c .assumed))
-
-    -- it ends with a model only if that is sought
-    pub sound : (k : ℕ) (M : Set) → after test k ≡ model M → Sought M
-    sound k M e = rw e at (good-after k)
-
-    -- while it runs, the count of steps is at most the trail's own sum
-    abbrev Counted : ℕ → State → Type 0
-    Counted k (running t ms) = k ≤ spent n t
-    Counted k (without ms) = Unit {0}
-    Counted k (model M) = Unit {0}
-
-    counted-paid : (k : ℕ) (s : State) → Paid k s → Counted k s
-    counted-paid k (running t ms) c = c
-    counted-paid k (without ms) c = tt
-    counted-paid k (model M) c = tt
-
-    counted-step : (k : ℕ) (s : State) → Good s → Counted k s → Counted (suc k) (step test s)
-    counted-step k (running t ms) g c = counted-paid (suc k) (advance (test t ms) t ms) (paid-advance k t ms (test t ms) (g .short) c)
-    counted-step k (without ms) g c = tt
-    counted-step k (model M) g c = tt
-
-    counted : (k : ℕ) → Counted k (after test k)
-    counted zero = omega arith
-    counted (suc k) = counted-step k (after test k) (good-after k) (counted k)
-
-    pub count-spent : (k : ℕ) (t : Trail) (ms : List ℕ) → after test k ≡ running t ms → k ≤ spent n t
-    count-spent k t ms e = rw e at (counted k)
-
-    -- so fewer than 2 ^ (n + 1) - 1 steps were made while it runs
-    pub count-bound : (k : ℕ) (t : Trail) (ms : List ℕ) → after test k ≡ running t ms → k + 2 ≤ 2 ^ suc n
-    count-bound k t ms e = omega (arith, count-spent k t ms e, spent-le n t (trail-good k t ms e .short))
-
-    -- and it has ended after 2 ^ (n + 1) - 1
-    pub ends : (t : Trail) (ms : List ℕ) → ¬ (after test (2 ^ suc n - 1) ≡ running t ms)
-    ends t ms e = omega (arith, count-bound (2 ^ suc n - 1) t ms e)

@@ -19,11 +19,11 @@ use Rattle.search.specs.declared.soft.Violation.{Violation}
 use Rattle.search.specs.declared.soft.Violation.the-variants.{At, Unviolated}
 use Rattle.search.specs.declared.soft.Wish.{Wish}
 use Rattle.search.specs.declared.soft.Wish.the-variants.{For, Decided}
-use Rattle.search.specs.Soft.{Assumed, assumed, judgedAt, firstOf, violatedFrom, violatedOf, wishFrom, wishOf, ReadableWishes, ReadableSoft}
+use Rattle.search.specs.Soft.{AssumedEntries, assumedEntries, judgedAt, firstOf, violatedFrom, violatedOf, wishFrom, wishOf, ReadableWishes, ReadableSoft}
 
 -- ---- the violated one
 
-module _ (s : Assumed) (v : List ℕ) (a : Violation) (i n : ℕ) where
+module _ (s : AssumedEntries) (v : List ℕ) (a : Violation) (i n : ℕ) where
   more : i < n → (judgedAt s v i ≡ 2 → ⊥) → violatedFrom s v a i (n - i) ≡ violatedFrom s v a (i + 1) (n - (i + 1))
   unfolding violatedFrom
   more h q = let e : n - i ≡ suc (n - (i + 1)) = omega arith in rw (e, ne-eqb (judgedAt s v i) 2 q)
@@ -41,14 +41,14 @@ module _ (s : Assumed) (v : List ℕ) (a : Violation) (i n : ℕ) where
   none-left h = let e : n - i ≡ 0 = omega arith in rw e
 
 -- the scan has come to i
-pub record Seen (s : Assumed) (v : List ℕ) (found : Violation) (i : ℕ) : Type 0 where
+pub record Seen (s : AssumedEntries) (v : List ℕ) (found : Violation) (i : ℕ) : Type 0 where
   pub below : i ≤ s .count
   pub rest : violatedFrom s v found i (s .count - i) ≡ violatedOf s v
 
-pub seen-start : (s : Assumed) (v : List ℕ) → Seen s v Unviolated 0
+pub seen-start : (s : AssumedEntries) (v : List ℕ) → Seen s v Unviolated 0
 seen-start s v = record { below = omega arith; rest = rw sub-zero }
 
-module _ {s : Assumed} {v : List ℕ} {f : Violation} {i : ℕ} where
+module _ {s : AssumedEntries} {v : List ℕ} {f : Violation} {i : ℕ} where
   pub seen-met : Seen s v f i → i < s .count → {x : ℕ} → x ≡ judgedAt s v i → (x ≡ 2 → ⊥) → Seen s v f (i + 1)
   seen-met o h e q = record { below = omega arith; rest = sym (more s v f i (s .count) h (λ z. q (e ∙ z))) ∙ o .rest }
 
@@ -102,5 +102,5 @@ wished-in w f h = omega (arith, f .long)
 pub wished-small : {w : List ℤ} {k : ℕ} → ReadableWishes w k → {i : ℕ} → i < k → natAbs (getD w i (pos 0)) ≤ 1024
 wished-small f {i} h = f .small i h
 
-pub blamed-in : (s : Assumed) {i : ℕ} → ReadableSoft s → i < s .count → i < length (s .blamed)
+pub blamed-in : (s : AssumedEntries) {i : ℕ} → ReadableSoft s → i < s .count → i < length (s .blamed)
 blamed-in s f h = omega (arith, f .long)

@@ -22,9 +22,10 @@ use Rattle.search.specs.declared.soft.Wish.{Wish}
 use Rattle.search.specs.declared.soft.Wish.the-variants.{For, Decided}
 use Rattle.search.specs.declared.step.Tested.{Tested}
 use Rattle.search.specs.declared.step.Tested.the-variants.{RuleBroken, Full, SoftViolated, Open}
-use Rattle.search.specs.Places.{Places, truthAt, Good, putOf, pushOf, backOf}
+use Rattle.search.specs.declared.trail.Places.{Places}
+use Rattle.search.specs.Places.{truthAt, Good, putOf, pushOf, backOf}
 use Rattle.search.specs.Scan.{Rules, rules, Readable, scanOf}
-use Rattle.search.specs.Soft.{Assumed, assumed, wishFrom, wishOf, violatedOf, ReadableWishes, ReadableSoft, FormedSoft}
+use Rattle.search.specs.Soft.{AssumedEntries, assumedEntries, wishFrom, wishOf, violatedOf, ReadableWishes, ReadableSoft, FormedSoft}
 use Rattle.search.specs.Branch.{lowestOf, wishedOr, freeBranch, branchOf, NotedAs, Noted}
 use Rattle.search.specs.Step.{openOr, unbroken, testBy, testOf, Stepped, stepped, movedBy, stepOf}
 use Rattle.search.proofs.PlacesLaws.{good-put, good-back}
@@ -65,7 +66,7 @@ branch-small w k v n Clear r h m p = free-small w k v n r h m
 
 -- ---- the test where no rule is broken
 
-module _ (n : ℕ) (s : Assumed) (v : List ℕ) (len : ℕ) (f : Found) where
+module _ (n : ℕ) (s : AssumedEntries) (v : List ℕ) (len : ℕ) (f : Found) where
   pub test-full : n ≤ len → Full ≡ unbroken n s v len f
   unfolding unbroken
   test-full h = rw (le-leb n len h)
@@ -86,7 +87,7 @@ module _ (n : ℕ) (s : Assumed) (v : List ℕ) (len : ℕ) (f : Found) where
 
 -- ---- the test
 
-module _ (g : Rules) (n : ℕ) (s : Assumed) (v : List ℕ) (len : ℕ) {f : Found} where
+module _ (g : Rules) (n : ℕ) (s : AssumedEntries) (v : List ℕ) (len : ℕ) {f : Found} where
   pub test-broken : f ≡ scanOf g v → {r : ℕ} → f ≡ Broken r → RuleBroken r ≡ testOf g n s v len
   test-broken e q = rw (← e, q)
 
@@ -104,13 +105,13 @@ NotBroken (Breaker l) = Unit {0}
 NotBroken Clear = Unit {0}
 
 -- what the answer of the test says, where the scan found f
-abbrev pub Told : ℕ → Assumed → List ℕ → ℕ → Found → Tested → Type 0
+abbrev pub Told : ℕ → AssumedEntries → List ℕ → ℕ → Found → Tested → Type 0
 Told n s v len f (RuleBroken r) = f ≡ Broken r
 Told n s v len f Full = NotBroken f × (n ≤ len)
 Told n s v len f (SoftViolated i) = NotBroken f × (len < n) × (violatedOf s v ≡ At i)
 Told n s v len f (Open l) = NotBroken f × (len < n) × (violatedOf s v ≡ Unviolated) × (l ≡ branchOf (s .wished) (s .count) v n f)
 
-told-unbroken : (n : ℕ) (s : Assumed) (v : List ℕ) (len : ℕ) (f : Found) → NotBroken f → Told n s v len f (unbroken n s v len f)
+told-unbroken : (n : ℕ) (s : AssumedEntries) (v : List ℕ) (len : ℕ) (f : Found) → NotBroken f → Told n s v len f (unbroken n s v len f)
 unfolding unbroken
 told-unbroken n s v len f b = go (leb n len) refl (violatedOf s v) refl
   where
@@ -119,15 +120,15 @@ told-unbroken n s v len f b = go (leb n len) refl (violatedOf s v) refl
     go false e (At i) q = (b, leb-false n len e, q)
     go false e Unviolated q = (b, leb-false n len e, q, refl)
 
-told-by : (n : ℕ) (s : Assumed) (v : List ℕ) (len : ℕ) (f : Found) → Told n s v len f (testBy n s v len f)
+told-by : (n : ℕ) (s : AssumedEntries) (v : List ℕ) (len : ℕ) (f : Found) → Told n s v len f (testBy n s v len f)
 told-by n s v len (Broken r) = refl
 told-by n s v len (Breaker l) = told-unbroken n s v len (Breaker l) tt
 told-by n s v len Clear = told-unbroken n s v len Clear tt
 
-pub told : (g : Rules) (n : ℕ) (s : Assumed) (v : List ℕ) (len : ℕ) → Told n s v len (scanOf g v) (testOf g n s v len)
+pub told : (g : Rules) (n : ℕ) (s : AssumedEntries) (v : List ℕ) (len : ℕ) → Told n s v len (scanOf g v) (testOf g n s v len)
 told g n s v len = told-by n s v len (scanOf g v)
 
-module _ (g : Rules) (n : ℕ) (s : Assumed) (v : List ℕ) (len : ℕ) {x : Tested} where
+module _ (g : Rules) (n : ℕ) (s : AssumedEntries) (v : List ℕ) (len : ℕ) {x : Tested} where
   opened : x ≡ testOf g n s v len → {l : ℤ} → x ≡ Open l → NotBroken (scanOf g v) × (len < n) × (violatedOf s v ≡ Unviolated) × (l ≡ branchOf (s .wished) (s .count) v n (scanOf g v))
   opened e q = rw (sym e ∙ q) at (told g n s v len)
 
@@ -138,7 +139,7 @@ module _ (g : Rules) (n : ℕ) (s : Assumed) (v : List ℕ) (len : ℕ) {x : Tes
   open-in e q h r f = let o = opened e q in rw (o .3) (branch-small (s .wished) (s .count) v n (scanOf g v) (f .wishes) (omega (arith, o .1)) h (noted g v r))
 
 -- what a push asks; the literal comes from a call as its bits, read back
-module _ (pool : List ℤ) (rows : List ℕ) (count n : ℕ) (s : Assumed) (v : List ℕ) (len : ℕ) {x : Tested} {l : ℤ} where
+module _ (pool : List ℤ) (rows : List ℕ) (count n : ℕ) (s : AssumedEntries) (v : List ℕ) (len : ℕ) {x : Tested} {l : ℤ} where
   pub open-room : Formed n pool rows count → x ≡ testOf (rules pool rows count) n s v len → x ≡ Open l → len < 1024
   open-room f e q = open-short (rules pool rows count) n s v len e q (f .few)
 
@@ -153,7 +154,7 @@ module _ (pool : List ℤ) (rows : List ℕ) (count n : ℕ) (s : Assumed) (v : 
 
 -- ---- the step
 
-module _ (g : Rules) (n : ℕ) (s : Assumed) (t : Places) {x : Tested} where
+module _ (g : Rules) (n : ℕ) (s : AssumedEntries) (t : Places) {x : Tested} where
   pub step-broken : x ≡ testOf g n s (t .value) (t .len) → {r : ℕ} → x ≡ RuleBroken r → {t₁ : Places} → t₁ ≡ backOf t → stepped x t₁ ≡ stepOf g n s t
   step-broken e q z = rw (← e, q, z)
 
@@ -163,6 +164,6 @@ module _ (g : Rules) (n : ℕ) (s : Assumed) (t : Places) {x : Tested} where
   pub step-violated : x ≡ testOf g n s (t .value) (t .len) → {i : ℕ} → x ≡ SoftViolated i → {t₁ : Places} → t₁ ≡ backOf t → stepped x t₁ ≡ stepOf g n s t
   step-violated e q z = rw (← e, q, z)
 
-pub step-open : (pool : List ℤ) (rows : List ℕ) (count n : ℕ) (s : Assumed) (t : Places) {x : Tested} {l : ℤ} → Formed n pool rows count → FormedSoft n s
+pub step-open : (pool : List ℤ) (rows : List ℕ) (count n : ℕ) (s : AssumedEntries) (t : Places) {x : Tested} {l : ℤ} → Formed n pool rows count → FormedSoft n s
     → x ≡ testOf (rules pool rows count) n s (t .value) (t .len) → x ≡ Open l → {t₁ : Places} → t₁ ≡ pushOf (toZ w32 (ofZ w32 l)) t → stepped (Open l) t₁ ≡ stepOf (rules pool rows count) n s t
 step-open pool rows count n s t {l = l} f w e q z = rw (sym e ∙ q, z, open-same pool rows count n s (t .value) (t .len) f w e q)

@@ -24,15 +24,16 @@ use Rattle.search.specs.declared.soft.Violation.{Violation}
 use Rattle.search.specs.declared.soft.Violation.the-variants.{At, Unviolated}
 use Rattle.search.specs.declared.step.Tested.{Tested}
 use Rattle.search.specs.declared.step.Tested.the-variants.{RuleBroken, Full, SoftViolated, Open}
-use Rattle.search.specs.Trail.{Marked, decision, flipped, Trail, literal, on, NotOn, WellFormed, Agrees, InAll, trailSet, flip}
+use Rattle.search.specs.Trail.{Marked, decision, flipped, Trail, literalOf, on, NotOn, FormedTrail, Agrees, InAll, trailSet, flip}
 use Rattle.search.specs.Query.{Query, brokenIn, violatedIn, Some, HoldsAll, RuleFails, SoftFails, Wanted, Conflict, IsOpen}
-use Rattle.search.specs.Machine.{Verdict, open′, conflict, wanted, State, running, without, model, blame, resume, advance}
-use Rattle.search.specs.Places.{Places, places, freshPlaces, sideOf, putOf, pushOf, backOf, Good, trailAt, trailOf, valueOn, Sound}
+use Rattle.search.specs.Machine.{Verdict, open′, conflict, wanted, QueryState, running, without, model, blame, resume, advanceBy}
+use Rattle.search.specs.declared.trail.Places.{Places}
+use Rattle.search.specs.Places.{places, freshPlaces, sideOf, putOf, pushOf, backOf, Good, trailAt, trailOf, valueOn, SoundTrail}
 use Rattle.search.specs.Scan.{Rules, rules, scanOf}
-use Rattle.search.specs.Soft.{Assumed, wishedAt, violatedOf, FormedSoft}
+use Rattle.search.specs.Soft.{AssumedEntries, wishedAt, violatedOf, FormedSoft}
 use Rattle.search.specs.Branch.{branchOf}
 use Rattle.search.specs.Step.{testOf, Stepped, stepped, movedBy, stepOf}
-use Rattle.search.specs.Link.{queryOf, verdictOf, backState, stateBy, stateOf}
+use Rattle.search.specs.Link.{tableQuery, verdictOf, backState, stateBy, stateOf}
 use Rattle.search.proofs.PlacesLaws.{good-put, good-back}
 use Rattle.search.proofs.StepLaws.{NotBroken, Told, told}
 use Rattle.search.proofs.Counts.{short, short-off, off-short, on-not, all-on}
@@ -79,7 +80,7 @@ all-same (suc n) zero d = refl
 all-same (suc n) (suc i) d = all-same n i d
 
 -- (The lengths are variables, since `replicate 1024 x` writes itself out.)
-zeros-sound : (n a b c : ℕ) → a ≡ 1024 → b ≡ 1024 → c ≡ 1025 → Sound n (places (replicate a (pos 0)) (replicate b 0) (replicate c 0) 0)
+zeros-sound : (n a b c : ℕ) → a ≡ 1024 → b ≡ 1024 → c ≡ 1025 → SoundTrail n (places (replicate a (pos 0)) (replicate b 0) (replicate c 0) 0)
 zeros-sound n a b c ea eb ec = record {
   good = record {
     lits-len = length-replicate a (pos 0) ∙ ea;
@@ -94,21 +95,16 @@ zeros-sound n a b c ea eb ec = record {
 }
 
 -- "A fresh path has 1,024 empty places"
-pub fresh-sound : (n : ℕ) → Sound n freshPlaces
+pub fresh-sound : (n : ℕ) → SoundTrail n freshPlaces
 unfolding freshPlaces
 fresh-sound n = zeros-sound n 1024 1024 1025 refl refl refl
 
-ended-zeros : (n a b c : ℕ) → a ≡ 1024 → b ≡ 1024 → c ≡ 1025 → (t : Places) → Sound n t → t .len ≡ 0 → t ≡ places (replicate a (pos 0)) (replicate b 0) (replicate c 0) 0
+ended-zeros : (n a b c : ℕ) → a ≡ 1024 → b ≡ 1024 → c ≡ 1025 → (t : Places) → SoundTrail n t → t .len ≡ 0 → t ≡ places (replicate a (pos 0)) (replicate b 0) (replicate c 0) 0
 ended-zeros n a b c ea eb ec t d e =
     let ls : t .lits ≡ replicate a (pos 0) = ext-getD (pos 0) (t .lits) (replicate a (pos 0)) (d .good .lits-len ∙ sym (length-replicate a (pos 0) ∙ ea)) (λ i h. d .empty i (omega arith) .0 ∙ sym (all-same a i (pos 0))) in
     let ms : t .marks ≡ replicate b 0 = ext-getD 0 (t .marks) (replicate b 0) (d .good .marks-len ∙ sym (length-replicate b 0 ∙ eb)) (λ i h. d .empty i (omega arith) .1 ∙ sym (all-same b i 0)) in
     let v : t .value ≡ replicate c 0 = ext-getD 0 (t .value) (replicate c 0) (d .good .value-len ∙ sym (length-replicate c 0 ∙ ec)) (λ i h. d .valued i ∙ ap (λ (k : ℕ). valueOn (trailAt (t .lits) (t .marks) k) i) e ∙ sym (all-same c i 0)) in
     rw (← ls, ← ms, ← v, ← e)
-
--- tables that say the empty trail are the fresh ones: "An ended question empties the path"
-pub ended-fresh : (n : ℕ) (t : Places) → Sound n t → t .len ≡ 0 → t ≡ freshPlaces
-unfolding freshPlaces
-ended-fresh n t d e = ended-zeros n 1024 1024 1025 refl refl refl t d e
 
 -- the values by atom, read as asp reads a table of bytes, are the trail's set
 side-set : (l : ℤ) → eqb (sideOf l) 1 ≡ not (isNegative l)
@@ -117,13 +113,13 @@ side-set (negsuc a) = refl
 
 value-set : (u : Trail) (a : ℕ) → eqb (valueOn u a) 1 ≡ trailSet u a
 value-set [] a = refl
-value-set (s ∷ u) a = go (eqb a (natAbs (literal s))) (value-set u a)
+value-set (s ∷ u) a = go (eqb a (natAbs (literalOf s))) (value-set u a)
   where
-    go : (b : Bool) → eqb (valueOn u a) 1 ≡ trailSet u a → eqb (pick b (sideOf (literal s)) (valueOn u a)) 1 ≡ pick b (not (isNegative (literal s))) (trailSet u a)
-    go true h = side-set (literal s)
+    go : (b : Bool) → eqb (valueOn u a) 1 ≡ trailSet u a → eqb (pick b (sideOf (literalOf s)) (valueOn u a)) 1 ≡ pick b (not (isNegative (literalOf s))) (trailSet u a)
+    go true h = side-set (literalOf s)
     go false h = h
 
-pub set-is : (n : ℕ) (t : Places) → Sound n t → setOf (t .value) ≡ trailSet (trailOf t)
+pub set-is : (n : ℕ) (t : Places) → SoundTrail n t → setOf (t .value) ≡ trailSet (trailOf t)
 set-is n t d = fun-ext (λ a. ap (λ (x : ℕ). eqb x 1) (d .valued a) ∙ value-set (trailOf t) a)
 
 -- ---- the moves: back and push
@@ -132,37 +128,22 @@ back-state : (o : Option Trail) (t : Places) (ms : List ℕ) → BackSays o t �
 back-state none t ms h = rw (eq-eqb (t .len) 0 h)
 back-state (some u) t ms h = rw (ne-eqb (t .len) 0 (λ e. omega (arith, h .1))) (ap (λ (x : Trail). running x ms) (h .0))
 
-back-formed : (n : ℕ) (o : Option Trail) (t : Places) → BackSays o t → OnSome (WellFormed n) o → WellFormed n (trailOf t)
+back-formed : (n : ℕ) (o : Option Trail) (t : Places) → BackSays o t → OnSome (FormedTrail n) o → FormedTrail n (trailOf t)
 back-formed n none t h w = rw h tt
 back-formed n (some u) t h w = rw (h .0) w
 
-module _ (n : ℕ) (t : Places) (d : Sound n t) where
+module _ (n : ℕ) (t : Places) (d : SoundTrail n t) where
   said : BackSays (flip (trailOf t)) (backOf t) × Rest (backOf t)
   said = back-says n (t .len) (t .lits) (t .marks) (t .value) (d .good) (d .formed) (d .valued) (d .empty)
 
   -- `back` is the machine's cut, or its end without a model
-  pub back-advances : (b : Option ℕ) (ms : List ℕ) → backState (backOf t) (blame b ms) ≡ advance (conflict b) (trailOf t) ms
+  pub back-advances : (b : Option ℕ) (ms : List ℕ) → backState (backOf t) (blame b ms) ≡ advanceBy (conflict b) (trailOf t) ms
   back-advances b ms = back-state (flip (trailOf t)) (backOf t) (blame b ms) (said .0)
 
   pub back-resumes : (ms : List ℕ) → backState (backOf t) ms ≡ resume (flip (trailOf t)) ms
   back-resumes ms = back-state (flip (trailOf t)) (backOf t) ms (said .0)
 
-  -- the invariant of the search after a cut, by the length that `back` answers
-  pub cut-runs : (P : Problem) (ms : List ℕ) → theory.Good P (resume (flip (trailOf t)) ms) → 1 ≤ backOf t .len → GoodTrail P (trailOf (backOf t)) ms
-  cut-runs P ms g h = go (flip (trailOf t)) (said .0) g
-    where
-      go : (o : Option Trail) → BackSays o (backOf t) → theory.Good P (resume o ms) → GoodTrail P (trailOf (backOf t)) ms
-      go none y g = absurd (omega (arith, y))
-      go (some u) y g = rw (y .0) g
-
-  pub cut-ends : (P : Problem) (ms : List ℕ) → theory.Good P (resume (flip (trailOf t)) ms) → backOf t .len ≡ 0 → NoneMeets P ms
-  cut-ends P ms g h = go (flip (trailOf t)) (said .0) g
-    where
-      go : (o : Option Trail) → BackSays o (backOf t) → theory.Good P (resume o ms) → NoneMeets P ms
-      go none y g = g
-      go (some u) y g = absurd (omega (arith, y .1))
-
-  pub back-sound : Sound n (backOf t)
+  pub back-sound : SoundTrail n (backOf t)
   back-sound = record {
     good = good-back (t .len) t (d .good) (d .good .short);
     formed = back-formed n (flip (trailOf t)) (backOf t) (said .0) (flip-formed n (trailOf t) (d .formed));
@@ -171,13 +152,10 @@ module _ (n : ℕ) (t : Places) (d : Sound n t) where
   }
 
   -- `push` is the machine's decision
-  pub push-advances : (l : ℤ) (ms : List ℕ) → t .len < 1024 → running (trailOf (pushOf l t)) ms ≡ advance (open′ l) (trailOf t) ms
+  pub push-advances : (l : ℤ) (ms : List ℕ) → t .len < 1024 → running (trailOf (pushOf l t)) ms ≡ advanceBy (open′ l) (trailOf t) ms
   push-advances l ms h = ap (λ (x : Trail). running x ms) (put-trail l 1 t (d .good) h)
 
-  pub push-runs : (P : Problem) (ms : List ℕ) (l : ℤ) → t .len < 1024 → Says P (trailOf t) (open′ l) → GoodTrail P (trailOf t) ms → GoodTrail P (trailOf (pushOf l t)) ms
-  push-runs P ms l h y g = rw (put-trail l 1 t (d .good) h) (good-advance P (trailOf t) ms (open′ l) y g)
-
-  pub push-sound : (l : ℤ) → t .len < 1024 → n ≤ 1024 → In n (natAbs l) → NotOn (natAbs l) (trailOf t) → Sound n (pushOf l t)
+  pub push-sound : (l : ℤ) → t .len < 1024 → n ≤ 1024 → In n (natAbs l) → NotOn (natAbs l) (trailOf t) → SoundTrail n (pushOf l t)
   push-sound l h k i o =
       let e : trailOf (pushOf l t) ≡ decision l ∷ trailOf t = put-trail l 1 t (d .good) h in
       let z : natAbs l ≤ 1024 = omega (arith, i .1) in
@@ -190,18 +168,9 @@ module _ (n : ℕ) (t : Places) (d : Sound n t) where
 
   -- ---- what the trail has cost (`Spent`) rises with each move, and is bounded
 
-  pub push-dearer : (l : ℤ) → t .len < 1024 → spent n (trailOf (pushOf l t)) ≡ 1 + spent n (trailOf t)
-  push-dearer l h = ap (spent n) (put-trail l 1 t (d .good) h)
-
   cut-by : (o : Option Trail) → Dearer n (spent n (trailOf t)) o → BackSays o (backOf t) → 1 ≤ backOf t .len → spent n (trailOf t) < spent n (trailOf (backOf t))
   cut-by none c y h = absurd (omega (arith, y))
   cut-by (some u) c y h = rw (y .0) c
-
-  pub cut-dearer : 1 ≤ backOf t .len → spent n (trailOf t) < spent n (trailOf (backOf t))
-  cut-dearer h = cut-by (flip (trailOf t)) (flip-dearer n (trailOf t) (short n (trailOf t) (d .formed))) (said .0) h
-
-  pub spent-bound : spent n (trailOf t) + 2 ≤ 2 ^ suc n
-  spent-bound = spent-le n (trailOf t) (short n (trailOf t) (d .formed))
 
   pub length-is : length (trailOf t) ≡ t .len
   length-is = trail-length (t .lits) (t .marks) (t .len)
@@ -215,7 +184,7 @@ module _ (n : ℕ) (t : Places) (d : Sound n t) where
 
 -- ---- the test
 
-module _ (n : ℕ) (pool : List ℤ) (rows : List ℕ) (count : ℕ) (f : Formed n pool rows count) (s : Assumed) (q : FormedSoft n s) (t : Places) (d : Sound n t) where
+module _ (n : ℕ) (pool : List ℤ) (rows : List ℕ) (count : ℕ) (f : Formed n pool rows count) (s : AssumedEntries) (q : FormedSoft n s) (t : Places) (d : SoundTrail n t) where
   abbrev g : Rules
   g = rules pool rows count
 
@@ -291,10 +260,10 @@ module _ (n : ℕ) (pool : List ℤ) (rows : List ℕ) (count : ℕ) (f : Formed
   open-room : (l : ℤ) → x ≡ Open l → t .len < n
   open-room l e = let z : Told n s (t .value) (t .len) (scanOf g (t .value)) (Open l) = rw e at (told g n s (t .value) (t .len)) in z .1
 
-  pub step-advances : (name : ℕ → ℕ) (j : Verdict) (ms : List ℕ) → (¬ (x ≡ Full)) → stateOf name (stepOf g n s t) ms ≡ advance (verdictOf name j x) u ms
+  pub step-advances : (name : ℕ → ℕ) (j : Verdict) (ms : List ℕ) → (¬ (x ≡ Full)) → stateOf name (stepOf g n s t) ms ≡ advanceBy (verdictOf name j x) u ms
   step-advances name j ms k = go x refl
     where
-      go : (y : Tested) → x ≡ y → stateBy name y (movedBy y t) ms ≡ advance (verdictOf name j y) u ms
+      go : (y : Tested) → x ≡ y → stateBy name y (movedBy y t) ms ≡ advanceBy (verdictOf name j y) u ms
       go (RuleBroken r) e = back-advances n t d none ms
       go Full e = absurd (k e)
       go (SoftViolated i) e = back-advances n t d (some (name i)) ms
@@ -303,10 +272,10 @@ module _ (n : ℕ) (pool : List ℤ) (rows : List ℕ) (count : ℕ) (f : Formed
   pub open-short : (l : ℤ) → x ≡ Open l → t .len < 1024
   open-short l e = omega (arith, open-room l e, f .few)
 
-  pub step-sound : Sound n (stepOf g n s t .trail)
+  pub step-sound : SoundTrail n (stepOf g n s t .trail)
   step-sound = go x refl test-says
     where
-      go : (y : Tested) → x ≡ y → TestSays y → Sound n (movedBy y t)
+      go : (y : Tested) → x ≡ y → TestSays y → SoundTrail n (movedBy y t)
       go (RuleBroken r) e z = back-sound n t d
       go Full e z = d
       go (SoftViolated i) e z = back-sound n t d
@@ -323,10 +292,10 @@ module _ (n : ℕ) (pool : List ℤ) (rows : List ℕ) (count : ℕ) (f : Formed
   module _ (Goal : Set → Type 0) where
     -- what each answer is, in document 01's words; a full trail is wanted just if its set is sought
     abbrev pub Exact : Tested → Type 0
-    Exact (RuleBroken r) = Conflict (queryOf g n s Goal) u
-    Exact Full = (Goal (trailSet u) → Wanted (queryOf g n s Goal) u) × ((¬ Goal (trailSet u)) → Conflict (queryOf g n s Goal) u)
-    Exact (SoftViolated i) = Conflict (queryOf g n s Goal) u
-    Exact (Open l) = IsOpen (queryOf g n s Goal) u
+    Exact (RuleBroken r) = Conflict (tableQuery g n s Goal) u
+    Exact Full = (Goal (trailSet u) → Wanted (tableQuery g n s Goal) u) × ((¬ Goal (trailSet u)) → Conflict (tableQuery g n s Goal) u)
+    Exact (SoftViolated i) = Conflict (tableQuery g n s Goal) u
+    Exact (Open l) = IsOpen (tableQuery g n s Goal) u
 
     exact-by : (y : Tested) → TestSays y → Exact y
     exact-by (RuleBroken r) z = inr (inl (rule-conflict r z))
@@ -334,7 +303,7 @@ module _ (n : ℕ) (pool : List ℤ) (rows : List ℕ) (count : ℕ) (f : Formed
     exact-by (SoftViolated i) z = inr (inr (soft-conflict i z))
     exact-by (Open l) z = (λ w. z .0 (w .0), fine)
       where
-        fine : ¬ Conflict (queryOf g n s Goal) u
+        fine : ¬ Conflict (tableQuery g n s Goal) u
         fine (inl c) = z .0 (c .0)
         fine (inr (inl c)) = z .1 c
         fine (inr (inr c)) = z .2 c
@@ -379,7 +348,7 @@ module _ (n : ℕ) (pool : List ℤ) (rows : List ℕ) (count : ℕ) (f : Formed
 
 -- ---- for the caller's verdict on a full trail: what its set refutes, the trail does
 
-pub full-dead : (n : ℕ) (u : Trail) → WellFormed n u → HoldsAll n u → (Goal : Set → Type 0) → ((M : Set) → Goal M → Only n M) → (¬ Goal (trailSet u)) → Dead Goal u
+pub full-dead : (n : ℕ) (u : Trail) → FormedTrail n u → HoldsAll n u → (Goal : Set → Type 0) → ((M : Set) → Goal M → Only n M) → (¬ Goal (trailSet u)) → Dead Goal u
 full-dead n u w h Goal o k = λ M m a. k (subst Goal (full-is n u w h M (o M m) a) m)
 
 -- ---- wanted and conflict exclude each other, where a sought set breaks no rule and has what is wished
@@ -389,7 +358,7 @@ all-hold u M [] h c a = c
 all-hold u M (l ∷ ls) h (inl c) a = T-not (holds M l) (h .0) (c M a)
 all-hold u M (l ∷ ls) h (inr c) a = all-hold u M ls (h .1) c a
 
-pub wanted-fine : (q : Query) (u : Trail) → WellFormed (q .n) u → ((M : Set) → q .Sought M → NoneBroken (q .rules) M) → ((M : Set) → q .Sought M → All (λ (l : ℤ). T (holds M l)) (q .wished))
+pub wanted-fine : (q : Query) (u : Trail) → FormedTrail (q .n) u → ((M : Set) → q .Sought M → NoneBroken (q .rules) M) → ((M : Set) → q .Sought M → All (λ (l : ℤ). T (holds M l)) (q .wished))
     → Wanted q u → ¬ Conflict q u
 wanted-fine q u w b h m (inl c) = c .1 m
 wanted-fine q u w b h m (inr (inl c)) = fails-none u (q .rules) (trailSet u) c (b (trailSet u) (m .1)) (set-agrees (q .n) u w)

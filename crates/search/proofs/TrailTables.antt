@@ -13,11 +13,12 @@ use lib.Seq.{getD-set-same, getD-set-other}
 use borrow.Author.Tests.{ne-eqb, eqb-true, eqb-false}
 use Rattle.asp.specs.Sets.{pick}
 use Rattle.asp.proofs.Signed.{abs-neg}
-use Rattle.search.specs.Trail.{Marked, decision, flipped, Trail, literal, NotOn, WellFormed, flip}
-use Rattle.search.specs.Places.{Places, places, sideOf, putOf, dropOf, backFrom, backOf, Good, markedBy, trailAt, trailOf, valueOn}
+use Rattle.search.specs.Trail.{Marked, decision, flipped, Trail, literalOf, NotOn, FormedTrail, flip}
+use Rattle.search.specs.declared.trail.Places.{Places}
+use Rattle.search.specs.Places.{places, sideOf, putOf, dropOf, backFrom, backOf, Good, markedBy, trailAt, trailOf, valueOn}
 use Rattle.search.proofs.PlacesLaws.{good-drop}
 
-pub literal-marked : (b : Bool) (l : ℤ) → literal (markedBy b l) ≡ l
+pub literal-marked : (b : Bool) (l : ℤ) → literalOf (markedBy b l) ≡ l
 literal-marked true l = refl
 literal-marked false l = refl
 
@@ -60,7 +61,7 @@ put-values l m t g h w a =
 
 pub value-off : (t : Trail) (a : ℕ) → NotOn a t → valueOn t a ≡ 0
 value-off [] a h = refl
-value-off (s ∷ t) a h = rw (ne-eqb a (natAbs (literal s)) (h .0)) (value-off t a (h .1))
+value-off (s ∷ t) a h = rw (ne-eqb a (natAbs (literalOf s)) (h .0)) (value-off t a (h .1))
 
 drop-values : (v : List ℕ) (x s : ℕ) (t : Trail) → x < length v → NotOn x t → ((a : ℕ) → getD v a 0 ≡ pick (eqb a x) s (valueOn t a)) → Valued (set v x 0) t
 drop-values v x s t h o w a = value-set v x 0 a h ∙ go (eqb a x) refl
@@ -102,14 +103,14 @@ unfolding putOf
 put-len l m t = omega arith
 
 -- the literal at k is flipped, or taken away
-module _ (n k : ℕ) (ls : List ℤ) (ms v : List ℕ) (g : Good (places ls ms v (suc k))) (w : WellFormed n (trailAt ls ms (suc k))) (i : Valued v (trailAt ls ms (suc k))) (z : Empty ls ms (suc k)) where
+module _ (n k : ℕ) (ls : List ℤ) (ms v : List ℕ) (g : Good (places ls ms v (suc k))) (w : FormedTrail n (trailAt ls ms (suc k))) (i : Valued v (trailAt ls ms (suc k))) (z : Empty ls ms (suc k)) where
   abbrev l : ℤ
   l = getD ls k (pos 0)
 
   abbrev d : Places
   d = places (set ls k (pos 0)) (set ms k 0) (set v (natAbs l) 0) k
 
-  same : natAbs (literal (markedBy (eqb (getD ms k 0) 1) l)) ≡ natAbs l
+  same : natAbs (literalOf (markedBy (eqb (getD ms k 0) 1) l)) ≡ natAbs l
   same = ap natAbs (literal-marked (eqb (getD ms k 0) 1) l)
 
   drop-good : Good d
@@ -121,7 +122,7 @@ module _ (n k : ℕ) (ls : List ℤ) (ms v : List ℕ) (g : Good (places ls ms v
 
   drop-valued : Valued (d .value) (trailAt ls ms k)
   drop-valued =
-      drop-values v (natAbs l) (sideOf (literal (markedBy (eqb (getD ms k 0) 1) l))) (trailAt ls ms k) (omega (arith, g .small k, g .value-len)) (rw same at (w .1))
+      drop-values v (natAbs l) (sideOf (literalOf (markedBy (eqb (getD ms k 0) 1) l))) (trailAt ls ms k) (omega (arith, g .small k, g .value-len)) (rw same at (w .1))
       (λ a. rw same at (i a))
 
   dropped : Rest d
@@ -144,7 +145,7 @@ module _ (n k : ℕ) (ls : List ℤ) (ms v : List ℕ) (g : Good (places ls ms v
   either r false = r
 
 module _ (n : ℕ) where
-  pub back-says : (k : ℕ) (ls : List ℤ) (ms v : List ℕ) → Good (places ls ms v k) → WellFormed n (trailAt ls ms k) → Valued v (trailAt ls ms k) → Empty ls ms k
+  pub back-says : (k : ℕ) (ls : List ℤ) (ms v : List ℕ) → Good (places ls ms v k) → FormedTrail n (trailAt ls ms k) → Valued v (trailAt ls ms k) → Empty ls ms k
       → BackSays (flip (trailAt ls ms k)) (backFrom k (places ls ms v k)) × Rest (backFrom k (places ls ms v k))
   unfolding backFrom dropOf
   back-says zero ls ms v g w i z = (refl, record { valued = i; empty = z })

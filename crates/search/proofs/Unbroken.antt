@@ -8,7 +8,7 @@ use lib.Dec.{T, eqb, eqb-refl}
 use mir.Facts.{and-yes, yes-and, T-not}
 use Rattle.asp.specs.Sets.{Set}
 use Rattle.asp.specs.Program.{Head, constraint, plain, choice, Rule, All}
-use Rattle.asp.specs.Stable.{bodyHolds, ruleAdds, adds, violated, anyViolated, Stable}
+use Rattle.asp.specs.Stable.{bodyHolds, ruleAdds, adds, constraintFails, anyViolated, Stable}
 use Rattle.search.specs.Trail.{Trail, Agrees}
 use Rattle.search.specs.Query.{brokenIn, noHeadIn, RuleFails}
 use Rattle.search.proofs.Counts.{yes-or-left, yes-or-right}
@@ -21,7 +21,7 @@ not-or : (a b : Bool) → T (not (a || b)) → T (not a) × T (not b)
 not-or true b x = absurd x
 not-or false b x = (tt, x)
 
-rule-kept : (M : Set) (r : Rule) → T (not (violated M r)) → ((a : ℕ) → T (ruleAdds M r M a) → T (M a)) → ¬ T (brokenIn M r)
+rule-kept : (M : Set) (r : Rule) → T (not (constraintFails M r)) → ((a : ℕ) → T (ruleAdds M r M a) → T (M a)) → ¬ T (brokenIn M r)
 rule-kept M r x f k = go (r .head) refl (and-yes (noHeadIn M (r .head)) (bodyHolds M M (r .body)) k)
   where
     go : (h : Head) → r .head ≡ h → T (noHeadIn M (r .head)) × T (bodyHolds M M (r .body)) → ⊥
@@ -33,7 +33,7 @@ pub kept-all : (rs : List Rule) (M : Set) → T (not (anyViolated M rs)) → ((a
 unfolding anyViolated adds
 kept-all [] M x f = tt
 kept-all (r ∷ rs) M x f =
-    let y = not-or (violated M r) (anyViolated M rs) x in
+    let y = not-or (constraintFails M r) (anyViolated M rs) x in
     (rule-kept M r (y .0) (λ a z. f a (yes-or-left (ruleAdds M r M a) (adds M rs M a) z)), kept-all rs M (y .1) (λ a z. f a (yes-or-right (ruleAdds M r M a) (adds M rs M a) z)))
 
 pub stable-unbroken : (rs : List Rule) (M : Set) → Stable rs M → NoneBroken rs M

@@ -8,21 +8,16 @@ use lib.IntN.{ℤ, pos, negℤ, natAbs}
 use lib.ListN.{length, getD, set, replicate}
 use Rattle.asp.specs.Sets.{pick}
 use Rattle.asp.specs.Literal.{isNegative}
-use Rattle.search.specs.Trail.{Marked, decision, flipped, Trail, literal, WellFormed}
+use Rattle.search.specs.declared.trail.Places.{Places}
+use Rattle.search.specs.Trail.{Marked, decision, flipped, Trail, literalOf, FormedTrail}
 
 -- "A fresh path has 1,024 empty places; each filled one holds a literal, marked first or second": a free place is 0, also after a cut;
 -- mark 1 is a decision (first), 2 flipped (second); value by atom: 0 undecided, 1 in, 2 out
-pub record Places : Type 0 where
-  pub lits : List ℤ
-  pub marks : List ℕ
-  pub value : List ℕ
-  pub len : ℕ
-
 abbrev pub places : List ℤ → List ℕ → List ℕ → ℕ → Places
 places ls ms v k = record { lits = ls; marks = ms; value = v; len = k }
 
 -- "A fresh path has 1,024 empty places"
-unfoldable pub freshPlaces : Places
+abbrev pub freshPlaces : Places
 freshPlaces = places (replicate 1024 (pos 0)) (replicate 1024 0) (replicate 1025 0) 0
 
 -- the value of an atom in which the literal is true: 1 in, 2 out
@@ -83,11 +78,11 @@ trailOf t = trailAt (t .lits) (t .marks) (t .len)
 -- the value of an atom: 0 undecided, 1 in, 2 out
 abbrev pub valueOn : Trail → ℕ → ℕ
 valueOn [] a = 0
-valueOn (s ∷ t) a = pick (eqb a (natAbs (literal s))) (sideOf (literal s)) (valueOn t a)
+valueOn (s ∷ t) a = pick (eqb a (natAbs (literalOf s))) (sideOf (literalOf s)) (valueOn t a)
 
 -- the tables say a trail over the atoms 1 to n: "no atom twice"; the values are the trail's; the places after it are empty
-pub record Sound (n : ℕ) (t : Places) : Type 0 where
+pub record SoundTrail (n : ℕ) (t : Places) : Type 0 where
   pub good : Good t
-  pub formed : WellFormed n (trailOf t)
+  pub formed : FormedTrail n (trailOf t)
   pub valued : (a : ℕ) → getD (t .value) a 0 ≡ valueOn (trailOf t) a
   pub empty : (i : ℕ) → t .len ≤ i → (getD (t .lits) i (pos 0) ≡ pos 0) × (getD (t .marks) i 0 ≡ 0)

@@ -14,19 +14,19 @@ use Rattle.search.specs.declared.soft.Wish.{Wish}
 use Rattle.search.specs.declared.soft.Wish.the-variants.{For, Decided}
 
 -- the literal that each one wishes for, and whether it is blamed already (1); the first `count` of both
-pub record Assumed : Type 0 where
+pub record AssumedEntries : Type 0 where
   pub wished : List ℤ
   pub blamed : List ℕ
   pub count : ℕ
 
-abbrev pub assumed : List ℤ → List ℕ → ℕ → Assumed
-assumed w b k = record { wished = w; blamed = b; count = k }
+abbrev pub assumedEntries : List ℤ → List ℕ → ℕ → AssumedEntries
+assumedEntries w b k = record { wished = w; blamed = b; count = k }
 
-abbrev pub wishedAt : Assumed → ℕ → ℤ
+abbrev pub wishedAt : AssumedEntries → ℕ → ℤ
 wishedAt s i = getD (s .wished) i (pos 0)
 
 -- what the one at i is: 0 undecided, 1 met, 2 violated
-abbrev pub judgedAt : Assumed → List ℕ → ℕ → ℕ
+abbrev pub judgedAt : AssumedEntries → List ℕ → ℕ → ℕ
 judgedAt s v i = truthAt v (wishedAt s i)
 
 abbrev pub firstOf : Violation → ℕ → Violation
@@ -34,14 +34,14 @@ firstOf (At j) i = At j
 firstOf Unviolated i = At i
 
 -- among the k from i on, with the first violated one so far: one that is blamed already comes before a new one (DESIGN, "Blame")
-unfoldable pub violatedFrom : Assumed → List ℕ → Violation → ℕ → ℕ → Violation
+unfoldable pub violatedFrom : AssumedEntries → List ℕ → Violation → ℕ → ℕ → Violation
 violatedFrom s v a i zero = a
 violatedFrom s v a i (suc k) =
     pick (eqb (judgedAt s v i) 2)
     (pick (eqb (getD (s .blamed) i 0) 1) (At i) (violatedFrom s v (firstOf a i) (i + 1) k))
     (violatedFrom s v a (i + 1) k)
 
-abbrev pub violatedOf : Assumed → List ℕ → Violation
+abbrev pub violatedOf : AssumedEntries → List ℕ → Violation
 violatedOf s v = violatedFrom s v Unviolated 0 (s .count)
 
 -- the places among the k from i on that a table says are blamed
@@ -62,12 +62,12 @@ pub record ReadableWishes (w : List ℤ) (k : ℕ) : Type 0 where
   pub long : k ≤ length w
   pub small : (i : ℕ) → i < k → natAbs (getD w i (pos 0)) ≤ 1024
 
-pub record ReadableSoft (s : Assumed) : Type 0 where
+pub record ReadableSoft (s : AssumedEntries) : Type 0 where
   pub wishes : ReadableWishes (s .wished) (s .count)
   pub long : s .count ≤ length (s .blamed)
 
 -- well-formed tables of assumed soft literals over the atoms 1 to n
-pub record FormedSoft (n : ℕ) (s : Assumed) : Type 0 where
+pub record FormedSoft (n : ℕ) (s : AssumedEntries) : Type 0 where
   pub wished-long : s .count ≤ length (s .wished)
   pub blamed-long : s .count ≤ length (s .blamed)
   pub atoms : (i : ℕ) → i < s .count → In n (natAbs (wishedAt s i))

@@ -4,9 +4,10 @@ use Prim.Native.Nat.{ℕ}
 use lib.Dec.{leb}
 use lib.IntN.{ℤ}
 use Rattle.asp.specs.Sets.{pick}
-use Rattle.search.specs.Places.{Places, pushOf, backOf}
+use Rattle.search.specs.declared.trail.Places.{Places}
+use Rattle.search.specs.Places.{pushOf, backOf}
 use Rattle.search.specs.Scan.{Rules, scanOf}
-use Rattle.search.specs.Soft.{Assumed, violatedOf}
+use Rattle.search.specs.Soft.{AssumedEntries, violatedOf}
 use Rattle.search.specs.Branch.{branchOf}
 use Rattle.search.specs.declared.scan.Found.{Found}
 use Rattle.search.specs.declared.scan.Found.the-variants.{Broken, Breaker, Clear}
@@ -21,15 +22,15 @@ openOr l (At i) = SoftViolated i
 openOr l Unviolated = Open l
 
 -- no rule is broken
-unfoldable pub unbroken : ℕ → Assumed → List ℕ → ℕ → Found → Tested
+unfoldable pub unbroken : ℕ → AssumedEntries → List ℕ → ℕ → Found → Tested
 unbroken n s v len f = pick (leb n len) Full (openOr (branchOf (s .wished) (s .count) v n f) (violatedOf s v))
 
-abbrev pub testBy : ℕ → Assumed → List ℕ → ℕ → Found → Tested
+abbrev pub testBy : ℕ → AssumedEntries → List ℕ → ℕ → Found → Tested
 testBy n s v len (Broken r) = RuleBroken r
 testBy n s v len (Breaker l) = unbroken n s v len (Breaker l)
 testBy n s v len Clear = unbroken n s v len Clear
 
-abbrev pub testOf : Rules → ℕ → Assumed → List ℕ → ℕ → Tested
+abbrev pub testOf : Rules → ℕ → AssumedEntries → List ℕ → ℕ → Tested
 testOf g n s v len = testBy n s v len (scanOf g v)
 
 -- what a step came to, and the trail after it
@@ -47,5 +48,5 @@ movedBy Full t = t
 movedBy (SoftViolated i) t = backOf t
 movedBy (Open l) t = pushOf l t
 
-abbrev pub stepOf : Rules → ℕ → Assumed → Places → Stepped
+abbrev pub stepOf : Rules → ℕ → AssumedEntries → Places → Stepped
 stepOf g n s t = stepped (testOf g n s (t .value) (t .len)) (movedBy (testOf g n s (t .value) (t .len)) t)

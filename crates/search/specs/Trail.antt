@@ -19,28 +19,28 @@ pub data Marked : Type 0 where
 abbrev pub Trail : Type 0
 Trail = List Marked
 
-abbrev pub literal : Marked → Literal
-literal (decision l) = l
-literal (flipped l) = l
+abbrev pub literalOf : Marked → Literal
+literalOf (decision l) = l
+literalOf (flipped l) = l
 
 -- the atoms on the trail
 abbrev pub on : Trail → Set
 on [] a = false
-on (s ∷ t) a = eqb a (natAbs (literal s)) || on t a
+on (s ∷ t) a = eqb a (natAbs (literalOf s)) || on t a
 
 abbrev pub NotOn : ℕ → Trail → Type 0
 NotOn a [] = Unit {0}
-NotOn a (s ∷ t) = (¬ (a ≡ natAbs (literal s))) × NotOn a t
+NotOn a (s ∷ t) = (¬ (a ≡ natAbs (literalOf s))) × NotOn a t
 
 -- "no atom twice", each "of an atom from 1 to n"
-abbrev pub WellFormed : ℕ → Trail → Type 0
-WellFormed n [] = Unit {0}
-WellFormed n (s ∷ t) = In n (natAbs (literal s)) × NotOn (natAbs (literal s)) t × WellFormed n t
+abbrev pub FormedTrail : ℕ → Trail → Type 0
+FormedTrail n [] = Unit {0}
+FormedTrail n (s ∷ t) = In n (natAbs (literalOf s)) × NotOn (natAbs (literalOf s)) t × FormedTrail n t
 
 -- M agrees with the trail: each of its literals holds in M
 abbrev pub Agrees : Set → Trail → Type 0
 Agrees M [] = Unit {0}
-Agrees M (s ∷ t) = T (holds M (literal s)) × Agrees M t
+Agrees M (s ∷ t) = T (holds M (literalOf s)) × Agrees M t
 
 -- P holds "in every set that agrees with it"
 abbrev pub InAll : Trail → (Set → Type 0) → Type 0
@@ -49,7 +49,7 @@ InAll t P = (M : Set) → Agrees M t → P M
 -- "its set": the atoms whose positive literal is on it
 abbrev pub trailSet : Trail → Set
 trailSet [] a = false
-trailSet (s ∷ t) a = pick (eqb a (natAbs (literal s))) (not (isNegative (literal s))) (trailSet t a)
+trailSet (s ∷ t) a = pick (eqb a (natAbs (literalOf s))) (not (isNegative (literalOf s))) (trailSet t a)
 
 -- "on a failed path, cut it after its last first literal and replace that by its complement, marked second"; none where there is no first literal
 abbrev pub flip : Trail → Option Trail

@@ -23,7 +23,7 @@ pub enum Found {
 }
 
 // The condition at place k: the complement of a head atom, before mid, or a body literal.
-fn condition(pool: &[i32], mid: usize, k: usize) -> i32
+pub fn condition(pool: &[i32], mid: usize, k: usize) -> i32
     requires { ⌜ k < length (now pool) ⌝ }
     requires { ⌜ natAbs (getD (now pool) k (pos 0)) ≤ 1024 ⌝ }
     ensures { λ r. ⌜ r ≡ condAt (now (pool .entry)) mid k ⌝ }
@@ -72,7 +72,7 @@ fn meet(value: &[u8; 1025], rest: Rest, l: i32) -> Rest
 }
 
 // The condition at place k is met.
-fn meet_at<'a>(pool: &'a [i32], value: &'a [u8; 1025], rest: Rest, mid: usize, k: usize) -> Rest
+pub fn meet_at<'a>(pool: &'a [i32], value: &'a [u8; 1025], rest: Rest, mid: usize, k: usize) -> Rest
     requires { ⌜ k < length (now pool) ⌝ }
     requires { ⌜ natAbs (getD (now pool) k (pos 0)) ≤ 1024 ⌝ }
     ensures { λ r. ⌜ r ≡ meetOf (now (value .entry)) rest (condAt (now (pool .entry)) mid k) ⌝ }
@@ -92,7 +92,7 @@ fn begin(rows: &[u16], r: usize) -> Rest
     }
 }
 
-fn all(rest: Rest) -> bool
+pub fn all(rest: Rest) -> bool
     ensures { λ r. ⌜ r ≡ isAll rest ⌝ }
 {
     match rest {
@@ -113,7 +113,7 @@ fn off(rest: Rest) -> bool
 }
 
 // The first literal that is left alone is noted.
-fn note(found: Found, rest: Rest) -> Found
+pub fn note(found: Found, rest: Rest) -> Found
     ensures { λ r. ⌜ r ≡ noteOf found rest ⌝ }
 {
     match found {

@@ -6,7 +6,7 @@ ghost use Prim.Native.Nat.{ℕ, _<_, _≤_};
 ghost use lib.ListN.{length, getD};
 ghost use lib.IntN.{pos, natAbs};
 ghost use Rattle.search.specs.Places.{truthAt};
-ghost use Rattle.search.specs.Soft.{assumed, ReadableWishes, ReadableSoft, firstOf, violatedOf, wishOf};
+ghost use Rattle.search.specs.Soft.{assumedEntries, ReadableWishes, ReadableSoft, firstOf, violatedOf, wishOf};
 
 // Which one is violated on a trail.
 pub enum Violation {
@@ -45,8 +45,8 @@ pub fn violated<'a>(
     count: usize,
     value: &'a [u8; 1025],
 ) -> Violation
-    requires { ⌜ ReadableSoft (assumed (now wished) (now blamed) count) ⌝ }
-    ensures { λ r. ⌜ r ≡ violatedOf (assumed (now (wished .entry)) (now (blamed .entry)) count) (now (value .entry)) ⌝ }
+    requires { ⌜ ReadableSoft (assumedEntries (now wished) (now blamed) count) ⌝ }
+    ensures { λ r. ⌜ r ≡ violatedOf (assumedEntries (now (wished .entry)) (now (blamed .entry)) count) (now (value .entry)) ⌝ }
 {
     let mut found = Violation::Unviolated;
     let mut i: usize = 0;

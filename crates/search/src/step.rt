@@ -10,7 +10,7 @@ ghost use Prim.Native.Nat.{ℕ, _≤_};
 ghost use Rattle.asp.specs.Tables.{Formed};
 ghost use Rattle.search.specs.Places.{places, Good};
 ghost use Rattle.search.specs.Scan.{rules};
-ghost use Rattle.search.specs.Soft.{assumed, ReadableSoft, FormedSoft};
+ghost use Rattle.search.specs.Soft.{assumedEntries, ReadableSoft, FormedSoft};
 ghost use Rattle.search.specs.Branch.{Noted};
 ghost use Rattle.search.specs.Step.{unbroken, testOf, stepped, stepOf};
 
@@ -29,7 +29,7 @@ pub struct Outcome {
 }
 
 // The test where no rule is broken.
-fn test_unbroken<'a>(
+pub fn test_unbroken<'a>(
     found: Found,
     n: usize,
     wished: &'a [i32],
@@ -40,8 +40,8 @@ fn test_unbroken<'a>(
 ) -> Tested
     requires { ⌜ n ≤ 1024 ⌝ }
     requires { ⌜ Noted found ⌝ }
-    requires { ⌜ ReadableSoft (assumed (now wished) (now blamed) count) ⌝ }
-    ensures { λ r. ⌜ r ≡ unbroken n (assumed (now (wished .entry)) (now (blamed .entry)) count) (now (value .entry)) len found ⌝ }
+    requires { ⌜ ReadableSoft (assumedEntries (now wished) (now blamed) count) ⌝ }
+    ensures { λ r. ⌜ r ≡ unbroken n (assumedEntries (now (wished .entry)) (now (blamed .entry)) count) (now (value .entry)) len found ⌝ }
 {
     if n <= len {
         return Tested::Full;
@@ -65,8 +65,8 @@ pub fn test<'a>(
     len: usize,
 ) -> Tested
     requires { ⌜ Formed n (now pool) (now rows) rulecount ⌝ }
-    requires { ⌜ FormedSoft n (assumed (now wished) (now blamed) count) ⌝ }
-    ensures { λ r. ⌜ r ≡ testOf (rules (now (pool .entry)) (now (rows .entry)) rulecount) n (assumed (now (wished .entry)) (now (blamed .entry)) count) (now (value .entry)) len ⌝ }
+    requires { ⌜ FormedSoft n (assumedEntries (now wished) (now blamed) count) ⌝ }
+    ensures { λ r. ⌜ r ≡ testOf (rules (now (pool .entry)) (now (rows .entry)) rulecount) n (assumedEntries (now (wished .entry)) (now (blamed .entry)) count) (now (value .entry)) len ⌝ }
 {
     let found = scan::scan(pool, rows, rulecount, value);
     match found {
@@ -91,9 +91,9 @@ pub fn step<'a>(
     len: usize,
 ) -> Outcome
     requires { ⌜ Formed n (now pool) (now rows) rulecount ⌝ }
-    requires { ⌜ FormedSoft n (assumed (now wished) (now blamed) count) ⌝ }
+    requires { ⌜ FormedSoft n (assumedEntries (now wished) (now blamed) count) ⌝ }
     requires { ⌜ Good (places (now lits) (now marks) (now value) len) ⌝ }
-    ensures { λ r. ⌜ stepped (r .tested) (places (now (lits .exit)) (now (marks .exit)) (now (value .exit)) (r .len)) ≡ stepOf (rules (now (pool .entry)) (now (rows .entry)) rulecount) n (assumed (now (wished .entry)) (now (blamed .entry)) count) (places (now (lits .entry)) (now (marks .entry)) (now (value .entry)) len) ⌝ }
+    ensures { λ r. ⌜ stepped (r .tested) (places (now (lits .exit)) (now (marks .exit)) (now (value .exit)) (r .len)) ≡ stepOf (rules (now (pool .entry)) (now (rows .entry)) rulecount) n (assumedEntries (now (wished .entry)) (now (blamed .entry)) count) (places (now (lits .entry)) (now (marks .entry)) (now (value .entry)) len) ⌝ }
 {
     let t = test(pool, rows, rulecount, n, wished, blamed, count, value, len);
     let k = match t {

@@ -7,31 +7,28 @@ ghost use lib.ListN.{getD};
 ghost use lib.IntN.{pos, natAbs};
 ghost use Rattle.search.specs.Places.{Good, places, freshPlaces, putOf, pushOf, dropOf, backOf};
 
-// The trail by value, as a state keeps it.
-pub struct Trail {
+// The tables of a trail by value, as a state keeps them.
+pub struct Places {
     pub lits: [i32; 1024],
     pub marks: [u8; 1024],
     pub value: [u8; 1025],
     pub len: usize,
 }
 
-// A fresh trail has 1,024 empty places.
-pub fn fresh() -> Trail
-    ensures { λ r. ⌜ places (r .lits) (r .marks) (r .value) (r .len) ≡ freshPlaces ⌝ }
+// "A fresh path has 1,024 empty places"
+pub fn fresh() -> Places
+    ensures { λ r. ⌜ r ≡ freshPlaces ⌝ }
 {
-    let lits = [0i32; 1024];
-    let marks = [0u8; 1024];
-    let value = [0u8; 1025];
-    Trail {
-        lits: lits,
-        marks: marks,
-        value: value,
+    Places {
+        lits: [0; 1024],
+        marks: [0; 1024],
+        value: [0; 1025],
         len: 0,
     }
 }
 
 // A literal is added, with its mark.
-fn put(
+pub fn put(
     lits: &mut [i32; 1024],
     marks: &mut [u8; 1024],
     value: &mut [u8; 1025],
@@ -66,7 +63,7 @@ pub fn push(
 }
 
 // The literal at k, the last, is taken away: its place is free again.
-fn take(lits: &mut [i32; 1024], marks: &mut [u8; 1024], value: &mut [u8; 1025], k: usize) -> i32
+pub fn take(lits: &mut [i32; 1024], marks: &mut [u8; 1024], value: &mut [u8; 1025], k: usize) -> i32
     requires { ⌜ k < 1024 ⌝ }
     requires { ⌜ natAbs (getD (now lits) k (pos 0)) ≤ 1024 ⌝ }
     ensures { λ r. ⌜ (places (now (lits .exit)) (now (marks .exit)) (now (value .exit)) k ≡ dropOf k (places (now (lits .entry)) (now (marks .entry)) (now (value .entry)) k)) × (r ≡ getD (now (lits .entry)) k (pos 0)) ⌝ }

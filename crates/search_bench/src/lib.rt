@@ -3,8 +3,8 @@ use search::step;
 use search::step::Tested;
 use search::trail;
 ghost use Rattle.asp.specs.Tables.{Formed};
-ghost use Rattle.search.specs.Places.{places, Sound};
-ghost use Rattle.search.specs.Soft.{assumed, FormedSoft};
+ghost use Rattle.search.specs.Places.{places, SoundTrail};
+ghost use Rattle.search.specs.Soft.{assumedEntries, FormedSoft};
 
 fn turn<'a>(
     pool: &'a [i32],
@@ -20,9 +20,9 @@ fn turn<'a>(
     len: usize,
 ) -> usize
     requires { ⌜ Formed n (now pool) (now rows) rulecount ⌝ }
-    requires { ⌜ FormedSoft n (assumed (now wished) (now blamed) count) ⌝ }
-    requires { ⌜ Sound n (places (now lits) (now marks) (now value) len) ⌝ }
-    ensures { λ r. ⌜ Sound n (places (now (lits .exit)) (now (marks .exit)) (now (value .exit)) r) ⌝ }
+    requires { ⌜ FormedSoft n (assumedEntries (now wished) (now blamed) count) ⌝ }
+    requires { ⌜ SoundTrail n (places (now lits) (now marks) (now value) len) ⌝ }
+    ensures { λ r. ⌜ SoundTrail n (places (now (lits .exit)) (now (marks .exit)) (now (value .exit)) r) ⌝ }
 {
     let o = step::step(
         pool,
@@ -61,8 +61,8 @@ pub extern "C" fn step_many<'a>(
     budget: u32,
 ) -> usize
     requires { ⌜ Formed n (now pool) (now rows) rulecount ⌝ }
-    requires { ⌜ FormedSoft n (assumed (now wished) (now blamed) count) ⌝ }
-    requires { ⌜ Sound n (places (now lits) (now marks) (now value) len) ⌝ }
+    requires { ⌜ FormedSoft n (assumedEntries (now wished) (now blamed) count) ⌝ }
+    requires { ⌜ SoundTrail n (places (now lits) (now marks) (now value) len) ⌝ }
 {
     let mut l = len;
     let mut k: u32 = 0;

@@ -10,8 +10,8 @@ ghost use Prim.Native.Nat.{ℕ, _≤_};
 ghost use lib.ListN.{length, getD};
 ghost use lib.IntN.{pos, natAbs};
 ghost use Rattle.asp.specs.Tables.{Formed};
-ghost use Rattle.search.specs.Places.{places, Sound};
-ghost use Rattle.search.specs.Soft.{assumed, FormedSoft};
+ghost use Rattle.search.specs.Places.{places, SoundTrail};
+ghost use Rattle.search.specs.Soft.{assumedEntries, FormedSoft};
 ghost use Rattle.search_traces.specs.Stored.{Wished};
 
 // What a turn came to: the trail's length, and whether the query has ended: 0 no, 1 without a model, 2 with one.
@@ -85,8 +85,8 @@ fn cut(
     value: &mut [u8; 1025],
     len: usize,
 ) -> Moved
-    requires { ⌜ Sound n (places (now lits) (now marks) (now value) len) ⌝ }
-    ensures { λ r. ⌜ Sound n (places (now (lits .exit)) (now (marks .exit)) (now (value .exit)) (r .len)) ⌝ }
+    requires { ⌜ SoundTrail n (places (now lits) (now marks) (now value) len) ⌝ }
+    ensures { λ r. ⌜ SoundTrail n (places (now (lits .exit)) (now (marks .exit)) (now (value .exit)) (r .len)) ⌝ }
 {
     let k = trail::back(lits, marks, value, len);
     came(lits, marks, k)
@@ -105,9 +105,9 @@ fn full<'a>(
     len: usize,
 ) -> Moved
     requires { ⌜ n ≤ 1024 ⌝ }
-    requires { ⌜ FormedSoft n (assumed (now wished) (now blamed) count) ⌝ }
-    requires { ⌜ Sound n (places (now lits) (now marks) (now value) len) ⌝ }
-    ensures { λ r. ⌜ Sound n (places (now (lits .exit)) (now (marks .exit)) (now (value .exit)) (r .len)) ⌝ }
+    requires { ⌜ FormedSoft n (assumedEntries (now wished) (now blamed) count) ⌝ }
+    requires { ⌜ SoundTrail n (places (now lits) (now marks) (now value) len) ⌝ }
+    ensures { λ r. ⌜ SoundTrail n (places (now (lits .exit)) (now (marks .exit)) (now (value .exit)) (r .len)) ⌝ }
     ensures { λ r. ⌜ length (now (blamed .exit)) ≡ length (now (blamed .entry)) ⌝ }
 {
     if !listed(models, mask(value, n)) {
@@ -145,9 +145,9 @@ fn turn<'a>(
     len: usize,
 ) -> Moved
     requires { ⌜ Formed n (now pool) (now rows) rulecount ⌝ }
-    requires { ⌜ FormedSoft n (assumed (now wished) (now blamed) count) ⌝ }
-    requires { ⌜ Sound n (places (now lits) (now marks) (now value) len) ⌝ }
-    ensures { λ r. ⌜ Sound n (places (now (lits .exit)) (now (marks .exit)) (now (value .exit)) (r .len)) ⌝ }
+    requires { ⌜ FormedSoft n (assumedEntries (now wished) (now blamed) count) ⌝ }
+    requires { ⌜ SoundTrail n (places (now lits) (now marks) (now value) len) ⌝ }
+    ensures { λ r. ⌜ SoundTrail n (places (now (lits .exit)) (now (marks .exit)) (now (value .exit)) (r .len)) ⌝ }
     ensures { λ r. ⌜ length (now (blamed .exit)) ≡ length (now (blamed .entry)) ⌝ }
 {
     let o = step::step(

@@ -2,13 +2,13 @@
 -- Assumes nothing.
 use borrow.Author.Needs.{needs}
 use Rattle.cores.specs.Columns.{columns}
-use Rattle.cores.specs.Tables.{Sound, Filled}
+use Rattle.cores.specs.Tables.{SoundTables, Filled}
 use Rattle.cores.proofs.Columns.{small-at}
 use Rattle.cores.proofs.Unpacked.{cut-formed, filled-by, zeros-long, reach-literals, reach-cores, reach-weights, same-many, same-cores, few-many, cut-long}
 use Rattle.cores_script.proofs.strata.Statement.{statement}
 use Rattle.cores_script.proofs.strata.Tie as tie
 
-sound : (c : tie.After-unpack) → Sound (c .before .before .before .before .before .before .args .t)
+sound : (c : tie.After-unpack) → SoundTables (c .before .before .before .before .before .before .args .t)
 sound c = c .before .before .before .before .before .before .pre
 
 filled : (c : tie.After-unpack)

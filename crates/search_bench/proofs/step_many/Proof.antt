@@ -1,13 +1,13 @@
 -- `search_bench::step_many` meets its contract. The loop keeps the tables sound.
 -- Assumes nothing.
 use Prim.Native.Nat.{_-_}
-use Rattle.search.specs.Places.{places, Sound}
+use Rattle.search.specs.Places.{places, SoundTrail}
 use borrow.Author.Needs.{needs}
 use Rattle.search_bench.proofs.step_many.Statement.{statement}
 use Rattle.search_bench.proofs.step_many.Tie as tie
 
 abbrev Inv-loop : tie.InvT-loop
-Inv-loop pool rows rulecount n wished blamed count lits₀ marks₀ value₀ len budget l₀ k₀ lits marks value l k = Sound n (places lits marks value l)
+Inv-loop pool rows rulecount n wished blamed count lits₀ marks₀ value₀ len budget l₀ k₀ lits marks value l k = SoundTrail n (places lits marks value l)
 
 abbrev μ-loop : tie.MeasureT-loop
 μ-loop pool rows rulecount n wished blamed count lits₀ marks₀ value₀ len budget l₀ k₀ lits marks value l k = budget - k

@@ -4,13 +4,13 @@ use mathlib.Core.Path.{_∙_}
 use native.Mathlib.Omega.{arith}
 use borrow.Author.Needs.{needs}
 use Rattle.cores.specs.Columns.{columns}
-use Rattle.cores.specs.Tables.{Sound, Filled}
+use Rattle.cores.specs.Tables.{SoundTables, Filled}
 use Rattle.cores.proofs.Unpacked.{filled-by, zeros-long, reach-literals, reach-cores, reach-indices, reach-weights, reach-ends, reach-members, same-many, few-many, cut-formed, cut-sum, cut-long}
 use Rattle.cores_script.proofs.measure.violated_weight.Statement.{statement}
 use Rattle.cores_script.proofs.measure.violated_weight.Tie as tie
 
 -- what is known where the columns are unpacked
-sound : (c : tie.After-unpack) → Sound (c .before .before .before .before .before .before .before .args .t)
+sound : (c : tie.After-unpack) → SoundTables (c .before .before .before .before .before .before .before .args .t)
 sound c = c .before .before .before .before .before .before .before .pre .0
 
 filled : (c : tie.After-unpack)

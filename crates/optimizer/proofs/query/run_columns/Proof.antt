@@ -8,8 +8,7 @@ use Rattle.asp.specs.Program.{All}
 use Rattle.cores.proofs.Columns.{small-at}
 use Rattle.cores.proofs.Unpacked.{cut-long}
 use Rattle.optimizer.specs.Source.{source, levelTables}
-use Rattle.optimizer.specs.Turn.{Query, turnsOf}
-use Rattle.optimizer.specs.Finish.{placesOf}
+use Rattle.optimizer.specs.Turn.{QueryTables, turnsOf}
 use Rattle.optimizer.specs.Ready.{ReadyQuery, GoodBlame}
 use Rattle.optimizer.proofs.Fronts.{assumed-is, assumed-many, assumed-reach, spots-reach, wished-reach, fronts-query}
 use borrow.Author.Needs.{needs}
@@ -65,14 +64,14 @@ run-lent-requires c κs =
     let a = c .before .before .before .before .before .before .before .before .before .before .before .before .before .before .before .before in
     let S = source (a .args .n) (a .args .pool .now) (a .args .rows .now) (a .args .rulecount) (levelTables (a .args .levels .now) (a .args .priorities .now) (a .args .literals .now) (a .args .weights .now) (a .args .entrycount)) in
     let q = fronts-query _ _ (a .pre .1 .1 .1 .0) (c .before .before .before .before .before .before .before .assumed2 .ensures) (a .args .softs .now) (a .args .cores .now) (c .before .before .before .entries .ensures) (a .args .level) (a .args .lowers .now) (a .args .indices .now) (a .args .ends .now) (a .args .members .now) in
-    (subst (λ (x : Query). ReadyQuery S x) (sym q) (a .pre .0), (subst (λ (x : Query). GoodBlame x (a .args .blame)) (sym q) (a .pre .1 .0), a .pre .1 .1 .0))
+    (subst (λ (x : QueryTables). ReadyQuery S x) (sym q) (a .pre .0), (subst (λ (x : QueryTables). GoodBlame x (a .args .blame)) (sym q) (a .pre .1 .0), a .pre .1 .1 .0))
 
 returns : tie.Need-returns
 returns c =
     let a = c .before .before .before .before .before .before .before .before .before .before .before .before .before .before .before .before .before in
     let S = source (a .args .n) (a .args .pool .now) (a .args .rows .now) (a .args .rulecount) (levelTables (a .args .levels .now) (a .args .priorities .now) (a .args .literals .now) (a .args .weights .now) (a .args .entrycount)) in
     let q = fronts-query _ _ (a .pre .1 .1 .1 .0) (c .before .before .before .before .before .before .before .before .assumed2 .ensures) (a .args .softs .now) (a .args .cores .now) (c .before .before .before .before .entries .ensures) (a .args .level) (a .args .lowers .now) (a .args .indices .now) (a .args .ends .now) (a .args .members .now) in
-    c .run-lent .ensures ∙ ap (λ (x : Query). turnsOf S x (a .args .budget) (placesOf (a .args .trail)) (a .args .blame)) q
+    c .run-lent .ensures ∙ ap (λ (x : QueryTables). turnsOf S x (a .args .budget) (a .args .trail) (a .args .blame)) q
 
 pub run-columns-spec : {M : Type 1} → statement M
 run-columns-spec =

@@ -4,12 +4,11 @@ use mathlib.Core.Path.{_≡_, sym, ap, _∙_, subst}
 use native.Mathlib.Omega.{arith}
 use borrow.Author.Needs.{needs}
 use Rattle.cores.specs.Columns.{columns}
-use Rattle.cores.specs.Tables.{Filled}
+use Rattle.cores.specs.Tables.{SoundTables, Filled}
 use Rattle.cores.proofs.Unpacked.{filled-by, zeros-long, reach-literals, reach-cores, reach-indices, reach-weights, reach-ends, reach-members, same-cores, few-many, cut-long}
 use Rattle.optimizer.specs.Source.{source, levelTables}
-use Rattle.optimizer.specs.Turn.{Query, turnsOf}
-use Rattle.optimizer.specs.Finish.{placesOf}
-use Rattle.optimizer.specs.Ready.{ReadyQuery, GoodBlame, SoundTables}
+use Rattle.optimizer.specs.Turn.{QueryTables, turnsOf}
+use Rattle.optimizer.specs.Ready.{ReadyQuery, GoodBlame}
 use Rattle.optimizer.proofs.Fronts.{columns-query}
 use Rattle.optimizer.proofs.query.run_query.Statement.{statement}
 use Rattle.optimizer.proofs.query.run_query.Tie as tie
@@ -74,7 +73,7 @@ run-columns-requires c κs =
     let e = c .before .before .before .before .before .before .before .held .ensures in
     let S = source (a .args .n) (a .args .pool .now) (a .args .rows .now) (a .args .rulecount) (levelTables (a .args .levels .now) (a .args .priorities .now) (a .args .literals .now) (a .args .weights .now) (a .args .entrycount)) in
     let q = columns-query (a .args .w .tables) (columns (u .unpack .last .1 .1 .0) (u .unpack .last .1 .1 .1 .0) (u .unpack .last .1 .1 .1 .1 .0) (u .unpack .last .1 .1 .1 .1 .1 .0)) (filled u) (a .args .w .level) (a .args .w .stratum) (a .args .w .lowers) in
-    (rw e (subst (λ (x : Query). ReadyQuery S x) (sym q) (a .pre .0)), (rw e (subst (λ (x : Query). GoodBlame x (a .args .blame)) (sym q) (a .pre .1 .0)), (a .pre .1 .1 .0, (few-many (sound u) (filled u), same-cores (sound u) (filled u)))))
+    (rw e (subst (λ (x : QueryTables). ReadyQuery S x) (sym q) (a .pre .0)), (rw e (subst (λ (x : QueryTables). GoodBlame x (a .args .blame)) (sym q) (a .pre .1 .0)), (a .pre .1 .1 .0, (few-many (sound u) (filled u), same-cores (sound u) (filled u)))))
 
 returns : tie.Need-returns
 returns c =
@@ -83,7 +82,7 @@ returns c =
     let e = c .before .before .before .before .before .before .before .before .held .ensures in
     let S = source (a .args .n) (a .args .pool .now) (a .args .rows .now) (a .args .rulecount) (levelTables (a .args .levels .now) (a .args .priorities .now) (a .args .literals .now) (a .args .weights .now) (a .args .entrycount)) in
     let q = columns-query (a .args .w .tables) (columns (u .unpack .last .1 .1 .0) (u .unpack .last .1 .1 .1 .0) (u .unpack .last .1 .1 .1 .1 .0) (u .unpack .last .1 .1 .1 .1 .1 .0)) (filled u) (a .args .w .level) (a .args .w .stratum) (a .args .w .lowers) in
-    (rw e at (c .run-columns .ensures)) ∙ ap (λ (x : Query). turnsOf S x (a .args .budget) (placesOf (a .args .trail)) (a .args .blame)) q
+    (rw e at (c .run-columns .ensures)) ∙ ap (λ (x : QueryTables). turnsOf S x (a .args .budget) (a .args .trail) (a .args .blame)) q
 
 pub run-query-spec : {M : Type 1} → statement M
 run-query-spec =

@@ -7,7 +7,8 @@ use Prim.Native.Nat.{ℕ}
 use borrow.Author.Needs.{needs}
 use Rattle.optimizer.specs.declared.state.Turn.the-variants.{Without, Model}
 use Rattle.optimizer.specs.Source.{levelTables}
-use Rattle.optimizer.specs.Finish.{ended, finishOf}
+use Rattle.optimizer.specs.Finish.{finishOf}
+use Rattle.optimizer.specs.Advance.{endedQuery}
 use Rattle.optimizer.specs.Ready.{ReadyCore}
 use Rattle.optimizer.proofs.run.after.Statement.{statement}
 use Rattle.optimizer.proofs.run.after.Tie as tie
@@ -51,14 +52,14 @@ returns-2 c =
     let a = c .before .before .before .before .before .before .before .before .before .before in
     let L = levelTables (a .args .levels .now) (a .args .priorities .now) (a .args .literals .now) (a .args .weights .now) (a .args .entrycount) in
     after-without L (a .args .phase) (a .args .advances) (a .args .w) (a .args .r .trail) (a .args .r .blame) (c .before .before .before .enum-told2 .given .1)
-    (c .end-query .ensures ∙ ap (λ (ms : List ℕ). ended (a .args .advances) (finishOf L (a .args .phase) (a .args .w) (a .args .r .trail .value) ms Without)) (c .before .blamed .ensures))
+    (c .end-query .ensures ∙ ap (λ (ms : List ℕ). endedQuery (a .args .advances) (finishOf L (a .args .phase) (a .args .w) (a .args .r .trail .value) ms Without)) (c .before .blamed .ensures))
 
 returns-3 : tie.Need-returns-3
 returns-3 c =
     let a = c .before .before .before .before .before .before .before .before .before .before in
     let L = levelTables (a .args .levels .now) (a .args .priorities .now) (a .args .literals .now) (a .args .weights .now) (a .args .entrycount) in
     after-model L (a .args .phase) (a .args .advances) (a .args .w) (a .args .r .trail) (a .args .r .blame) (c .before .before .before .enum-told3 .given .1)
-    (c .end-query2 .ensures ∙ ap (λ (ms : List ℕ). ended (a .args .advances) (finishOf L (a .args .phase) (a .args .w) (a .args .r .trail .value) ms Model)) (c .before .blamed2 .ensures))
+    (c .end-query2 .ensures ∙ ap (λ (ms : List ℕ). endedQuery (a .args .advances) (finishOf L (a .args .phase) (a .args .w) (a .args .r .trail .value) ms Model)) (c .before .blamed2 .ensures))
 
 pub after-spec : {M : Type 1} → statement M
 after-spec =

@@ -8,8 +8,8 @@ use Rattle.optimizer.proofs.run.end_query.Tie as tie
 finish-requires : tie.Need-finish-requires
 finish-requires c κs = search needs
 
-fresh-trail-requires : tie.Need-fresh-trail-requires
-fresh-trail-requires c κs = search needs
+fresh-requires : tie.Need-fresh-requires
+fresh-requires c κs = search needs
 
 fresh-blame-requires : tie.Need-fresh-blame-requires
 fresh-blame-requires c κs = search needs
@@ -19,4 +19,4 @@ returns c = search (ended-is, needs)
 
 pub end-query-spec : {M : Type 1} → statement M
 end-query-spec =
-    tie.close (tie.spec finish-requires fresh-trail-requires fresh-blame-requires returns)
+    tie.close (tie.spec finish-requires fresh-requires fresh-blame-requires returns)

@@ -5,8 +5,8 @@ use borrow.Author.Needs.{needs}
 use Rattle.optimizer.proofs.run.fresh.Statement.{statement}
 use Rattle.optimizer.proofs.run.fresh.Tie as tie
 
-fresh-trail-requires : tie.Need-fresh-trail-requires
-fresh-trail-requires c κs = search needs
+fresh-requires : tie.Need-fresh-requires
+fresh-requires c κs = search needs
 
 fresh-blame-requires : tie.Need-fresh-blame-requires
 fresh-blame-requires c κs = search needs
@@ -18,4 +18,4 @@ returns : tie.Need-returns
 returns c = search (fresh-is, needs)
 
 pub fresh-spec : {M : Type 1} → statement M
-fresh-spec = tie.close (tie.spec fresh-trail-requires fresh-blame-requires empty-requires returns)
+fresh-spec = tie.close (tie.spec fresh-requires fresh-blame-requires empty-requires returns)

@@ -4,15 +4,17 @@ use mathlib.Core.Path.{_≡_, refl, ap, sym, _∙_}
 use Prim.Native.Nat.{ℕ, _<_}
 use native.Mathlib.Omega.{arith}
 use lib.ListN.{length, getD}
-use Rattle.search.specs.Places.{Places, places}
+use Rattle.search.specs.declared.trail.Places.{Places}
+use Rattle.search.specs.Places.{places}
 use Rattle.search.specs.Step.{Stepped}
 use Rattle.search.proofs.Kept.{after-step}
 use Rattle.cores.specs.Judging.{judging}
 use Rattle.optimizer.specs.declared.state.Blame.{Blame}
 use Rattle.optimizer.specs.Source.{Source, source, levelTables}
-use Rattle.optimizer.specs.Turn.{Query, query, blame, queryTables}
+use Rattle.optimizer.specs.Turn.{QueryTables, queryTables, blameTables, assumedBy}
 use Rattle.optimizer.specs.Ready.{softs}
 use Rattle.optimizer.proofs.Turning.{all-at, entry-room, soft-formed, violated-entry, backed-is, turn-broken, turn-violated, turn-open, turn-full}
+use Rattle.indexing.proofs.Moving.{full-leaf}
 use borrow.Author.Needs.{needs}
 use Rattle.optimizer.proofs.turn.turn.Statement.{statement}
 use Rattle.optimizer.proofs.turn.turn.Tie as tie
@@ -22,21 +24,21 @@ given s =
     source (s .args .n) (s .args .pool .now) (s .args .rows .now) (s .args .rulecount)
     (levelTables (s .args .levels .now) (s .args .priorities .now) (s .args .literals .now) (s .args .weights .now) (s .args .entrycount))
 
-abbrev asked : tie.Start → Query
+abbrev asked : tie.Start → QueryTables
 asked s =
-    query (s .args .level) (s .args .lowers .now) (s .args .wished .now) (s .args .spots .now) (s .args .assumed .now)
+    queryTables (s .args .level) (s .args .lowers .now) (s .args .wished .now) (s .args .spots .now) (s .args .assumed .now)
     (judging (s .args .softs .now) (s .args .cores .now) (s .args .indices .now) (s .args .ends .now) (s .args .members .now))
 
 abbrev there : tie.Start → Places
 there s = places (s .args .lits .now) (s .args .marks .now) (s .args .value .now) (s .args .len)
 
 abbrev accused : tie.Start → Blame
-accused s = blame (s .args .flags .now) (s .args .core .now) (s .args .from)
+accused s = blameTables (s .args .flags .now) (s .args .core .now) (s .args .from)
 
 step-requires : tie.Need-step-requires
 step-requires c κs =
-    let s = c .before .before .before .before .before .before .before .before .before .before .before .before .before .before in
-    (s .pre .0 .source .rules, (soft-formed (s .pre .0) (s .pre .1 .0), s .pre .1 .1 .good))
+    let s = c .before .before .before .before .before .before .before .before .before .before .before .before .before .before .before .before .before .before .before in
+    (s .pre .0 .source .rules, (soft-formed (s .pre .0) (s .pre .1 .0), (s .pre .1 .1 .0 .good, s .pre .1 .1 .1)))
 
 enum-told : tie.Need-enum-told
 enum-told c = search needs
@@ -49,11 +51,11 @@ enum-known-t c = search needs
 
 blame-entry-requires : tie.Need-blame-entry-requires
 blame-entry-requires c κs =
-    let s = c .before .before .before .before .before .before .before .before .before .before .before .before .before .before .before .before .before .before .before .before in
+    let s = c .before .before .before .before .before .before .before .before .before .before .before .before .before .before .before .before .before .before .before .before .before .before .before .before .before .before in
     let r = s .pre .0 in
     let g = s .pre .1 .0 in
     let i = c .before .before .before .t .given .0 .0 in
-    let h : i < length (s .args .spots .now) = violated-entry r g (there s) (s .pre .1 .1) (sym (ap (λ (x : Stepped). x .tested) (c .before .before .before .before .before .step .ensures)) ∙ c .before .before .before .t .given .1) in
+    let h : i < length (s .args .spots .now) = violated-entry r g (there s) (s .pre .1 .1 .0) (sym (ap (λ (x : Stepped). x .tested) (c .before .before .before .before .before .before .step .ensures .0)) ∙ c .before .before .before .t .given .1) in
     let p : getD (s .args .spots .now) i 0 < softs (asked s) = all-at (λ m. m < softs (asked s)) (s .args .spots .now) (r .places-in) i h in
     (h, omega (arith, p, r .few), omega (arith, h, r .places-long, r .wished-few), g .from-in, g .flags-len, g .core-len, entry-room r g i h)
 
@@ -68,39 +70,45 @@ enum-told-3 c = search needs
 
 judged-requires : tie.Need-judged-requires
 judged-requires c κs =
-    let s = c .before .before .before .before .before .before .before .before .before .before .before .before .before .before .before .before .before .before .before .before .before .before in
-    (s .pre .0, (s .pre .1 .0, after-step (s .args .pool .now) (s .args .rows .now) (s .args .rulecount) (s .args .n) (queryTables (asked s) (accused s)) (there s) (s .pre .0 .source .rules) (soft-formed (s .pre .0) (s .pre .1 .0)) (s .pre .1 .1) (c .before .before .before .before .before .before .before .step .ensures)))
+    let s = c .before .before .before .before .before .before .before .before .before .before .before .before .before .before .before .before .before .before .before .before .before .before .before .before .before .before .before .before .before in
+    let o = c .before .before .before .before .before .before .before .before .before .step in
+    let k = after-step (s .args .pool .now) (s .args .rows .now) (s .args .rulecount) (s .args .n) (assumedBy (asked s) (accused s)) (there s) (s .pre .0 .source .rules) (soft-formed (s .pre .0) (s .pre .1 .0)) (s .pre .1 .1 .0) (o .ensures .0) in
+    (s .pre .0, (s .pre .1 .0, (k, full-leaf (assumedBy (asked s) (accused s)) (there s) (o .ensures .0) (c .before .before .before .before .before .before .enum-told3 .given .1) k (o .ensures .1))))
 
 returns : tie.Need-returns
 returns c =
-    let s = c .before .before .before .before .before .before .before .before .before .before .before .before .before .before .before .before .before .before in
-    let o = c .before .before .before .step in
-    turn-broken (given s) (asked s) (there s) (accused s) (o .ensures) (c .before .enum-told .given .1)
-    (backed-is (o .last .1 .1 .1 .1 .1 .1 .1 .0) (o .last .1 .1 .1 .1 .1 .1 .1 .1 .0) (o .last .1 .1 .1 .1 .1 .1 .1 .1 .1 .0) (o .result .len) (s .args .from) (s .args .flags .now) (s .args .core .now) (c .backed .ensures) refl)
+    let s = c .before .before .before .before .before .before .before .before .before .before .before .before .before .before .before .before .before .before .before .before .before .before .before .before in
+    let o = c .before .before .before .before .step in (
+      turn-broken (given s) (asked s) (there s) (accused s) (o .ensures .0) (c .before .enum-told .given .1)
+          (backed-is (o .last .1 .1 .1 .1 .1 .1 .1 .1 .1 .1 .1 .0) (o .last .1 .1 .1 .1 .1 .1 .1 .1 .1 .1 .1 .1 .0) (o .last .1 .1 .1 .1 .1 .1 .1 .1 .1 .1 .1 .1 .1 .0) (o .result .len) (s .args .from) (s .args .flags .now) (s .args .core .now) (c .backed .ensures) refl),
+      o .ensures .1,
+    )
 
 same-length : tie.Need-same-length
 same-length c = search needs
 
 returns-2 : tie.Need-returns-2
 returns-2 c =
-    let s = c .before .before .before .before .before .before .before .before .before .before .before .before .before .before .before .before .before .before .before .before .before .before .before .before in
-    let o = c .before .before .before .before .before .before .before .before .before .step in
-    let a = c .before .before .before .blame-entry in
-    turn-violated (given s) (asked s) (there s) (accused s) (o .ensures) (c .before .before .before .before .before .before .before .t .given .1) (a .ensures)
-    (backed-is (o .last .1 .1 .1 .1 .1 .1 .1 .0) (o .last .1 .1 .1 .1 .1 .1 .1 .1 .0) (o .last .1 .1 .1 .1 .1 .1 .1 .1 .1 .0) (o .result .len) (a .result) (a .last .1 .1 .0) (a .last .1 .1 .1 .0) (c .backed2 .ensures) refl)
+    let s = c .before .before .before .before .before .before .before .before .before .before .before .before .before .before .before .before .before .before .before .before .before .before .before .before .before .before .before .before .before .before in
+    let o = c .before .before .before .before .before .before .before .before .before .before .step in
+    let a = c .before .before .before .blame-entry in (
+      turn-violated (given s) (asked s) (there s) (accused s) (o .ensures .0) (c .before .before .before .before .before .before .before .t .given .1) (a .ensures)
+          (backed-is (o .last .1 .1 .1 .1 .1 .1 .1 .1 .1 .1 .1 .0) (o .last .1 .1 .1 .1 .1 .1 .1 .1 .1 .1 .1 .1 .0) (o .last .1 .1 .1 .1 .1 .1 .1 .1 .1 .1 .1 .1 .1 .0) (o .result .len) (a .result) (a .last .1 .1 .0) (a .last .1 .1 .1 .0) (c .backed2 .ensures) refl),
+      o .ensures .1,
+    )
 
 returns-3 : tie.Need-returns-3
 returns-3 c =
-    let s = c .before .before .before .before .before .before .before .before .before .before .before .before .before .before .before .before .before in
-    turn-open (given s) (asked s) (there s) (accused s) (c .before .before .step .ensures) (c .enum-told2 .given .1)
+    let s = c .before .before .before .before .before .before .before .before .before .before .before .before .before .before .before .before .before .before .before .before .before .before .before in
+    (turn-open (given s) (asked s) (there s) (accused s) (c .before .before .before .step .ensures .0) (c .enum-told2 .given .1), c .before .before .before .step .ensures .1)
 
 same-length-2 : tie.Need-same-length-2
 same-length-2 c = search needs
 
 returns-4 : tie.Need-returns-4
 returns-4 c =
-    let s = c .before .before .before .before .before .before .before .before .before .before .before .before .before .before .before .before .before .before .before .before .before .before .before .before .before in
-    turn-full (given s) (asked s) (there s) (accused s) (c .before .before .before .before .before .before .before .before .before .before .step .ensures) (c .before .before .before .before .before .before .before .before .enum-told3 .given .1) (c .before .before .judged .ensures)
+    let s = c .before .before .before .before .before .before .before .before .before .before .before .before .before .before .before .before .before .before .before .before .before .before .before .before .before .before .before .before .before .before .before .before in
+    (turn-full (given s) (asked s) (there s) (accused s) (c .before .before .before .before .before .before .before .before .before .before .before .before .step .ensures .0) (c .before .before .before .before .before .before .before .before .before .enum-told3 .given .1) (c .before .before .judged .ensures .0), c .before .before .judged .ensures .1)
 
 pub turn-spec : {M : Type 1} → statement M
 turn-spec =

@@ -3,7 +3,7 @@
 use mathlib.Core.Path.{_≡_, refl}
 use Prim.Native.Nat.{_-_}
 use lib.ListN.{length}
-use Rattle.search.specs.Places.{places, Sound}
+use Rattle.search.specs.Places.{places, SoundTrail}
 use Rattle.search.proofs.Kept.{after-fresh}
 use Rattle.search_traces.proofs.Laws.{soft-formed}
 use borrow.Author.Needs.{needs}
@@ -11,7 +11,7 @@ use Rattle.search_traces.proofs.run.run.Statement.{statement}
 use Rattle.search_traces.proofs.run.run.Tie as tie
 
 abbrev Inv-loop : tie.InvT-loop
-Inv-loop pool rows rulecount n wished count models lits₀ marks₀ value₀ len₀ blamed₀ ended₀ steps₀ lits marks value len blamed ended steps = Sound n (places lits marks value len) × (length blamed ≡ 8)
+Inv-loop pool rows rulecount n wished count models lits₀ marks₀ value₀ len₀ blamed₀ ended₀ steps₀ lits marks value len blamed ended steps = SoundTrail n (places lits marks value len) × (length blamed ≡ 8)
 
 abbrev μ-loop : tie.MeasureT-loop
 μ-loop pool rows rulecount n wished count models lits₀ marks₀ value₀ len₀ blamed₀ ended₀ steps₀ lits marks value len blamed ended steps = 1000 - steps

@@ -1,0 +1,162 @@
+// The test of a trail, and one step of the machine, by the numbers of the rules.
+use crate::scan;
+use crate::tally::Marks;
+use crate::trail;
+use search::scan::Found;
+use search::step;
+use search::step::Tested;
+ghost use mathlib.Core.Path.{_≡_};
+ghost use Prim.Native.Nat.{ℕ, _≤_};
+ghost use Rattle.asp.specs.Tables.{Formed};
+ghost use Rattle.search.specs.Places.{places, Good};
+ghost use Rattle.search.specs.Scan.{rules};
+ghost use Rattle.search.specs.Soft.{assumedEntries, ReadableSoft, FormedSoft};
+ghost use Rattle.search.specs.Branch.{Noted};
+ghost use Rattle.search.specs.Step.{testBy, testOf, stepped, stepOf};
+ghost use Rattle.counting.specs.Tally.{index, tally, marks};
+ghost use Rattle.counting.specs.Counts.{Counted, Indexed, Told, Marked};
+
+// What the test says, and the marks after it.
+pub struct Judged {
+    pub tested: Tested,
+    pub marks: Marks,
+}
+
+// What a step came to, the trail's length and the marks after it.
+pub struct Outcome {
+    pub tested: Tested,
+    pub len: usize,
+    pub marks: Marks,
+}
+
+// What the test says where the scan found this.
+fn test_by<'a>(
+    found: Found,
+    n: usize,
+    wished: &'a [i32],
+    blamed: &'a [u8],
+    count: usize,
+    value: &'a [u8; 1025],
+    len: usize,
+) -> Tested
+    requires { ⌜ n ≤ 1024 ⌝ }
+    requires { ⌜ Noted found ⌝ }
+    requires { ⌜ ReadableSoft (assumedEntries (now wished) (now blamed) count) ⌝ }
+    ensures { λ r. ⌜ r ≡ testBy n (assumedEntries (now (wished .entry)) (now (blamed .entry)) count) (now (value .entry)) len found ⌝ }
+{
+    match found {
+        Found::Broken(r) => Tested::RuleBroken(r),
+        Found::Breaker(_) => step::test_unbroken(found, n, wished, blamed, count, value, len),
+        Found::Clear => step::test_unbroken(found, n, wished, blamed, count, value, len),
+    }
+}
+
+// The test of a trail of length len.
+fn test<'a>(
+    pool: &'a [i32],
+    rows: &'a [u16],
+    rulecount: usize,
+    starts: &'a [u16],
+    lists: &'a [u16],
+    n: usize,
+    wished: &'a [i32],
+    blamed: &'a [u8],
+    count: usize,
+    key: &'a [u16; 2048],
+    value: &'a [u8; 1025],
+    len: usize,
+    m: Marks,
+) -> Judged
+    requires { ⌜ Formed n (now pool) (now rows) rulecount ⌝ }
+    requires { ⌜ FormedSoft n (assumedEntries (now wished) (now blamed) count) ⌝ }
+    requires { ⌜ Indexed (rules (now pool) (now rows) rulecount) (index (now starts) (now lists)) × Counted (rules (now pool) (now rows) rulecount) (index (now starts) (now lists)) (now value) (tally (now key) m) ⌝ }
+    ensures { λ r. ⌜ (r .tested ≡ testOf (rules (now (pool .entry)) (now (rows .entry)) rulecount) n (assumedEntries (now (wished .entry)) (now (blamed .entry)) count) (now (value .entry)) len) × Counted (rules (now (pool .entry)) (now (rows .entry)) rulecount) (index (now (starts .entry)) (now (lists .entry))) (now (value .entry)) (tally (now (key .entry)) (r .marks)) ⌝ }
+{
+    let s = scan::scan(pool, rows, rulecount, key, m, value);
+    let found = s.found;
+    let t = test_by(found, n, wished, blamed, count, value, len);
+    Judged {
+        tested: t,
+        marks: Marks {
+            broken: m.broken,
+            low: s.low,
+        },
+    }
+}
+
+// One step: the test, then the move that it asks for. A full trail stays, for the caller to judge.
+pub fn step<'a>(
+    pool: &'a [i32],
+    rows: &'a [u16],
+    rulecount: usize,
+    starts: &'a [u16],
+    lists: &'a [u16],
+    n: usize,
+    wished: &'a [i32],
+    blamed: &'a [u8],
+    count: usize,
+    lits: &mut [i32; 1024],
+    signs: &mut [u8; 1024],
+    value: &mut [u8; 1025],
+    key: &mut [u16; 2048],
+    len: usize,
+    m: Marks,
+) -> Outcome
+    requires { ⌜ Formed n (now pool) (now rows) rulecount ⌝ }
+    requires { ⌜ FormedSoft n (assumedEntries (now wished) (now blamed) count) ⌝ }
+    requires { ⌜ Good (places (now lits) (now signs) (now value) len) ⌝ }
+    requires { ⌜ Indexed (rules (now pool) (now rows) rulecount) (index (now starts) (now lists)) × Counted (rules (now pool) (now rows) rulecount) (index (now starts) (now lists)) (now value) (tally (now key) m) ⌝ }
+    ensures { λ r. ⌜ (stepped (r .tested) (places (now (lits .exit)) (now (signs .exit)) (now (value .exit)) (r .len)) ≡ stepOf (rules (now (pool .entry)) (now (rows .entry)) rulecount) n (assumedEntries (now (wished .entry)) (now (blamed .entry)) count) (places (now (lits .entry)) (now (signs .entry)) (now (value .entry)) len)) × Counted (rules (now (pool .entry)) (now (rows .entry)) rulecount) (index (now (starts .entry)) (now (lists .entry))) (now (value .exit)) (tally (now (key .exit)) (r .marks)) ⌝ }
+{
+    let x = test(
+        pool,
+        rows,
+        rulecount,
+        starts,
+        lists,
+        n,
+        wished,
+        blamed,
+        count,
+        key,
+        value,
+        len,
+        m,
+    );
+    let t = x.tested;
+    let q = x.marks;
+    match t {
+        Tested::RuleBroken(_) => {
+            let k = trail::back(starts, lists, lits, signs, value, key, len, q);
+            let after = k.marks;
+            Outcome {
+                tested: t,
+                len: k.len,
+                marks: after,
+            }
+        }
+        Tested::Full => Outcome {
+            tested: t,
+            len: len,
+            marks: q,
+        },
+        Tested::SoftViolated(_) => {
+            let k = trail::back(starts, lists, lits, signs, value, key, len, q);
+            let after = k.marks;
+            Outcome {
+                tested: t,
+                len: k.len,
+                marks: after,
+            }
+        }
+        Tested::Open(l) => {
+            let k = trail::push(starts, lists, lits, signs, value, key, len, l, q);
+            let after = k.marks;
+            Outcome {
+                tested: t,
+                len: k.len,
+                marks: after,
+            }
+        }
+    }
+}
