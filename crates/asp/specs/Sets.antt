@@ -9,6 +9,11 @@ abbrev pub pick : {A : Type 0} → Bool → A → A → A
 pick true a b = a
 pick false a b = b
 
+-- 1 for what is so
+abbrev pub ind : Bool → ℕ
+ind true = 1
+ind false = 0
+
 -- A set of atoms, by its membership test. An atom is a number from 1 on.
 abbrev pub Set : Type 0
 Set = ℕ → Bool

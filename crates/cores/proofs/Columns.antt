@@ -12,11 +12,11 @@ use lib.IntN.{ℤ, pos, natAbs}
 use lib.ListN.{length, getD, set, take, drop, replicate, length-replicate, getD-replicate, length-take, length-set, drop-of-length-le, List·getD-eq-default}
 use lib.Seq.{drop-cons, slice, slice-cons, length-slice, getD-take, getD-drop, getD-set-same, getD-set-other}
 use borrow.Author.Tests.{eq-eqb, ne-eqb, eqb-true, eqb-false}
-use Rattle.asp.specs.Sets.{Set, pick}
+use Rattle.asp.specs.Sets.{Set, pick, ind}
 use Rattle.asp.specs.Program.{All}
 use Rattle.asp.specs.Stable.{holds}
 use Rattle.asp.specs.Tables.{span}
-use Rattle.cores.specs.Sums.{ind, sumOver}
+use Rattle.cores.specs.Sums.{sumOver}
 use Rattle.cores.specs.Soft.{Kind, entry, derived, coreNumber, coreOf, kindAt, countBy, judge, violated, Earlier, InOrder}
 use Rattle.cores.specs.declared.judge.Judged.{Judged}
 use Rattle.cores.specs.declared.judge.Judged.the-variants.{Met, Violated}

@@ -8,9 +8,9 @@ use native.Mathlib.Omega.{arith}
 use lib.IntN.{pos}
 use lib.ListN.{length, getD, length-append, List·getD-append}
 use lib.Dec.{ltb}
-use Rattle.asp.specs.Sets.{Set}
+use Rattle.asp.specs.Sets.{Set, ind}
 use Rattle.asp.specs.Program.{All}
-use Rattle.cores.specs.Sums.{ind, sumOver}
+use Rattle.cores.specs.Sums.{sumOver}
 use Rattle.cores.specs.Soft.{Kind, entry, derived, coreNumber, coreOf, kindAt, countBy, judge, judged, violated, Earlier, InOrder}
 use Rattle.cores.proofs.Sums.{count-ext}
 

@@ -10,14 +10,14 @@ use lib.IntN.{ℤ, pos, natAbs, negℤ}
 use lib.ListN.{length, getD, take, replicate, length-map, length-replicate, getD-replicate}
 use lib.Seq.{sets}
 use borrow.Author.Tests.{ltb-true, ltb-false}
-use Rattle.asp.specs.Sets.{Set, pick}
+use Rattle.asp.specs.Sets.{Set, pick, ind}
 use Rattle.asp.specs.Literal.{sameℤ}
 use Rattle.asp.specs.Program.{Entry, All}
 use Rattle.asp.specs.Cost.{total, cost, weight, level}
 use Rattle.cores.specs.declared.level.LevelTables.{LevelTables}
 use Rattle.cores.specs.declared.judge.Judged.{Judged}
 use Rattle.cores.specs.declared.judge.Judged.the-variants.{Met, Violated}
-use Rattle.cores.specs.Sums.{ind, wsum, Distinct, Holds}
+use Rattle.cores.specs.Sums.{wsum, Distinct, Holds}
 use Rattle.cores.specs.Soft.{violated, InOrder}
 use Rattle.cores.specs.Level.{Level, weighty, opened, greatest, under, assumedFrom, assumed, recorded, fewer, coreFits, room, FormedEntries}
 use Rattle.cores.specs.Identity.{Problem, problem, Good, Core, violatedWeight, remaining}

@@ -8,10 +8,10 @@ use native.Mathlib.Omega.{arith}
 use borrow.Author.Tests.{le-leb}
 use lib.Dec.{leb}
 use lib.ListN.{length, getD, replicate, length-replicate, length-append}
-use Rattle.asp.specs.Sets.{Set}
+use Rattle.asp.specs.Sets.{Set, ind}
 use Rattle.asp.specs.Program.{Entry}
 use Rattle.asp.specs.Cost.{weight}
-use Rattle.cores.specs.Sums.{ind, wsum, lose}
+use Rattle.cores.specs.Sums.{wsum, lose}
 use Rattle.cores.specs.Soft.{violated}
 use Rattle.cores.specs.Level.{Level, weighty, opened, under, recorded, fewer, held, coreFits, room}
 use Rattle.cores.specs.Identity.{Problem, Good, Core, remaining}

@@ -9,12 +9,12 @@ use borrow.Author.Tests.{ltb-true, ltb-false}
 use lib.Dec.{ltb}
 use lib.IntN.{ℤ, pos}
 use lib.ListN.{length, getD, length-map, List·getD-map}
-use Rattle.asp.specs.Sets.{Set, pick}
+use Rattle.asp.specs.Sets.{Set, pick, ind}
 use Rattle.asp.specs.Literal.{sameℤ}
 use Rattle.asp.specs.Program.{Literal, Entry, All}
 use Rattle.asp.specs.Stable.{holds}
 use Rattle.asp.specs.Cost.{total, cost, weight, entryCost, level}
-use Rattle.cores.specs.Sums.{ind, wsum}
+use Rattle.cores.specs.Sums.{wsum}
 use Rattle.cores.specs.Soft.{Kind, entry, coreNumber, coreOf, kindAt, judge, violated, Earlier}
 use Rattle.cores.specs.Level.{Level, weighty, opened}
 use Rattle.cores.specs.Identity.{Problem, problem, Good, violatedWeight, remaining}

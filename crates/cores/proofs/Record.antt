@@ -10,9 +10,9 @@ use lib.IntN.{pos}
 use lib.ListN.{length, getD, replicate, length-replicate, length-append, List·getD-append, List·getD-eq-default}
 use lib.Seq.{getD-append-add, getD-append-seam}
 use lib.Dec.{ltb}
-use Rattle.asp.specs.Sets.{Set}
+use Rattle.asp.specs.Sets.{Set, ind}
 use Rattle.asp.specs.Program.{All}
-use Rattle.cores.specs.Sums.{ind, wsum, sumOver, Distinct, Holds, lose}
+use Rattle.cores.specs.Sums.{wsum, sumOver, Distinct, Holds, lose}
 use Rattle.cores.specs.Soft.{Kind, entry, derived, coreNumber, coreOf, kindAt, countBy, judge, violated, Earlier, InOrder}
 use Rattle.cores.specs.Level.{Level, recorded, fewer, derivedFrom}
 use Rattle.cores.specs.Identity.{Problem, Good, Core}

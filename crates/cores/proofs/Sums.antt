@@ -11,8 +11,9 @@ use lib.Seq.{lt-length-set, getD-set-other}
 use lib.Dec.{T, ltb, lt→ltb}
 use lib.Arith.{le→nltb}
 use native.Mathlib.Decide.{decLt}
+use Rattle.asp.specs.Sets.{ind}
 use Rattle.asp.specs.Program.{All}
-use Rattle.cores.specs.Sums.{ind, wsum, sumOver, Out, Distinct, Holds, lose}
+use Rattle.cores.specs.Sums.{wsum, sumOver, Out, Distinct, Holds, lose}
 
 -- ---- congruence: f counts only at the positions that there are
 

@@ -10,12 +10,12 @@ use native.Mathlib.Omega.{arith}
 use lib.IntN.{ℤ, pos, natAbs}
 use lib.ListN.{length, getD, set, take, drop, replicate, length-replicate, length-take, length-set, length-map, List·getD-map, List·getD-eq-default}
 use lib.Seq.{sets, slice, length-slice, getD-take, getD-drop, take-take, length-take-le, ext-getD}
-use Rattle.asp.specs.Sets.{Set}
+use Rattle.asp.specs.Sets.{Set, ind}
 use Rattle.asp.specs.Program.{All}
 use Rattle.asp.specs.Tables.{span}
 use Rattle.cores.specs.declared.soft.Soft.{Soft}
 use Rattle.cores.specs.declared.level.LevelTables.{LevelTables}
-use Rattle.cores.specs.Sums.{ind, wsum}
+use Rattle.cores.specs.Sums.{wsum}
 use Rattle.cores.specs.Identity.{violatedWeight}
 use Rattle.cores.specs.Soft.{Kind, entry, coreNumber, coreOf, kindAt, violated, Earlier, InOrder}
 use Rattle.cores.specs.Judging.{Judging, judging, kindFrom, kindIn, kindsIn, membersIn, coresIn, violatedAt, FormedJudging}

@@ -6,10 +6,10 @@ use Prim.Native.Nat.{ℕ, zero, suc, _≤_, _<_}
 use lib.Dec.{ltb}
 use lib.IntN.{pos}
 use lib.ListN.{length, getD}
-use Rattle.asp.specs.Sets.{Set}
+use Rattle.asp.specs.Sets.{Set, ind}
 use Rattle.asp.specs.Program.{Literal, All}
 use Rattle.asp.specs.Stable.{holds}
-use Rattle.cores.specs.Sums.{ind, sumOver}
+use Rattle.cores.specs.Sums.{sumOver}
 
 -- A soft literal. `entry l`: "each entry with weight above 0 is a wish for its literal's complement"; l is the entry's literal, which violates it.
 -- `derived j i`: a derived wish, the i-th of core j, both counted from 1.

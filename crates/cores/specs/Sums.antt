@@ -5,11 +5,6 @@ use mathlib.Core.List.{List, [], _∷_}
 use Prim.Native.Nat.{ℕ, suc, _+_, _-_, _*_, _≤_, _<_}
 use lib.ListN.{length, getD, set}
 
--- 1 for what is so
-abbrev pub ind : Bool → ℕ
-ind true = 1
-ind false = 0
-
 -- Σ over the positions p of (weight at p) * (f p)
 abbrev pub wsum : (ℕ → ℕ) → List ℕ → ℕ
 wsum f [] = 0

@@ -9,9 +9,9 @@ use native.Mathlib.Omega.{arith}
 use lib.IntN.{ℤ}
 use lib.ListN.{length, getD, take, drop, drop-of-length-le}
 use lib.Seq.{drop-cons}
-use Rattle.asp.specs.Sets.{Set}
+use Rattle.asp.specs.Sets.{Set, ind}
 use Rattle.cores.specs.declared.level.LevelTables.{LevelTables}
-use Rattle.cores.specs.Sums.{ind, wsum}
+use Rattle.cores.specs.Sums.{wsum}
 use Rattle.cores.specs.Soft.{violated}
 use Rattle.cores.specs.Identity.{violatedWeight}
 use Rattle.cores.specs.Judging.{Judging, judging, violatedAt, Known, Answers, FormedJudging}

@@ -9,15 +9,16 @@ use lib.IntN.{ℤ, pos, negsuc, negℤ, natAbs}
 use lib.ListN.{length, getD, set, length-set}
 use lib.Seq.{getD-set-same, getD-set-other, set-set}
 use borrow.Author.Tests.{eqb-true, eqb-false, lt-ltb, le-ltb, eq-eqb, ne-eqb}
-use Rattle.asp.specs.Sets.{pick}
+use Rattle.asp.specs.Sets.{pick, ind}
 use Rattle.asp.proofs.Signed.{abs-neg}
 use Rattle.search.specs.declared.trail.Places.{Places}
 use Rattle.search.specs.Places.{places, sideOf, truthOf, putOf, dropOf, Good}
 use Rattle.search.specs.Scan.{Rules, rowOf}
 use Rattle.search.proofs.PlacesLaws.{good-drop}
-use Rattle.counting.specs.Tally.{Index, Tally, first, many, lowerFrom, raiseFrom, shiftOf, decideOf, releaseOf}
-use Rattle.counting.specs.Moves.{Held, held, putAll, pushAll, dropAll, backAllFrom, backAll}
-use Rattle.counting.specs.Counts.{ind, sumFrom, countFrom, timesIn, weigh, term, keyOf, Marked, Counted, Indexed}
+use Rattle.counting.specs.declared.counters.Index.{Index}
+use Rattle.counting.specs.Counters.{Counters, first, listLength, lowerFrom, raiseFrom, shiftOf, decideOf, releaseOf}
+use Rattle.counting.specs.Moves.{CountedTrail, countedTrail, putAll, pushAll, dropAll, backAllFrom, backAll}
+use Rattle.counting.specs.Counts.{sumFrom, countFrom, timesIn, weigh, term, keyOf, MarksRight, Tracks, Indexed}
 use Rattle.counting.proofs.Sums.{sum-change, sum-bound, sum-part}
 use Rattle.counting.proofs.Marking.{lower-all, raise-all}
 
@@ -58,20 +59,20 @@ module _ (g : Rules) (o : Index) (ix : Indexed g o) where
   term-le v c r h = let z = sum-part (λ a. term o r a (getD v a 0)) c 0 1025 (omega arith) (omega arith) in omega arith
 
   -- one list falls, the other rises
-  shift-counted : (v : List ℕ) (t : Tally) (c x down up : ℕ) → Counted g o v t → c < length v → x ≤ 2 → down < 2050 → up < 2050
+  shift-counted : (v : List ℕ) (t : Counters) (c x down up : ℕ) → Tracks g o v t → c < length v → x ≤ 2 → down < 2050 → up < 2050
       → ((r : ℕ) → timesIn o r down ≤ keyOf g o v r) → ((r : ℕ) → keyOf g o (set v c x) r + timesIn o r down ≡ keyOf g o v r + timesIn o r up)
-      → Counted g o (set v c x) (shiftOf o down up t)
+      → Tracks g o (set v c x) (shiftOf o down up t)
   unfolding shiftOf
   shift-counted v t c x down up k l s hd hu room moved =
-      let low = lower-all (g .count) (ix .few) (o .rules) (first o down) (many o down) t (k .marked) (λ e p q. ix .inside down e hd p q) (λ r h. omega (arith, k .each r h, room r)) in
-      let high = raise-all (g .count) (ix .few) (o .rules) (first o up) (many o up) (lowerFrom (o .rules) (first o down) (many o down) t) (low .0) (λ e p q. ix .inside up e hu p q) (λ r h. omega (arith, low .1 r h, k .each r h, key-bound v r, ix .once r up)) in
+      let low = lower-all (g .count) (ix .few) (o .rules) (first o down) (listLength o down) t (k .marked) (λ e p q. ix .inside down e hd p q) (λ r h. omega (arith, k .each r h, room r)) in
+      let high = raise-all (g .count) (ix .few) (o .rules) (first o up) (listLength o up) (lowerFrom (o .rules) (first o down) (listLength o down) t) (low .0) (λ e p q. ix .inside up e hu p q) (λ r h. omega (arith, low .1 r h, k .each r h, key-bound v r, ix .once r up)) in
       record {
         marked = high .0;
         small = small-set v c x l s (k .small);
         each = λ r h. omega (arith, high .1 r h, low .1 r h, k .each r h, moved r);
       }
 
-  module _ (v : List ℕ) (t : Tally) (a : ℕ) (k : Counted g o v t) (long : length v ≡ 1025) (h : a ≤ 1024) where
+  module _ (v : List ℕ) (t : Counters) (a : ℕ) (k : Tracks g o v t) (long : length v ≡ 1025) (h : a ≤ 1024) where
     -- the sums before and after, by the two values
     by-values : (y x : ℕ) → getD v a 0 ≡ y → (r : ℕ) → keyOf g o (set v a x) r + term o r a y ≡ keyOf g o v r + term o r a x
     by-values y x e r = rw e at (key-set v a x r (omega arith) (omega arith))
@@ -79,19 +80,19 @@ module _ (g : Rules) (o : Index) (ix : Indexed g o) where
     enough : (y : ℕ) → getD v a 0 ≡ y → (r : ℕ) → term o r a y ≤ keyOf g o v r
     enough y e r = rw e at (term-le v a r (omega arith))
 
-    pub decide-counted : (s : ℕ) → getD v a 0 ≡ 0 → 1 ≤ s → s ≤ 2 → Counted g o (set v a s) (decideOf o a s t)
+    pub decide-counted : (s : ℕ) → getD v a 0 ≡ 0 → 1 ≤ s → s ≤ 2 → Tracks g o (set v a s) (decideOf o a s t)
     unfolding decideOf
     decide-counted s e p q = go (eqb s 1) refl
       where
-        go : (b : Bool) → eqb s 1 ≡ b → Counted g o (set v a s) (pick b (shiftOf o (a * 2) (a * 2 + 1) t) (shiftOf o (a * 2 + 1) (a * 2) t))
+        go : (b : Bool) → eqb s 1 ≡ b → Tracks g o (set v a s) (pick b (shiftOf o (a * 2) (a * 2 + 1) t) (shiftOf o (a * 2 + 1) (a * 2) t))
         go true w = let z : s ≡ 1 = eqb-true s 1 w in rw z (shift-counted v t a 1 (a * 2) (a * 2 + 1) k (omega arith) (omega arith) (omega arith) (omega arith) (λ r. omega (arith, enough 0 e r)) (λ r. omega (arith, by-values 0 1 e r)))
         go false w = let y = eqb-false s 1 w in let z : s ≡ 2 = omega arith in rw z (shift-counted v t a 2 (a * 2 + 1) (a * 2) k (omega arith) (omega arith) (omega arith) (omega arith) (λ r. omega (arith, enough 0 e r)) (λ r. omega (arith, by-values 0 2 e r)))
 
-    pub release-counted : Counted g o (set v a 0) (releaseOf o a (getD v a 0) t)
+    pub release-counted : Tracks g o (set v a 0) (releaseOf o a (getD v a 0) t)
     unfolding releaseOf
     release-counted = go (eqb (getD v a 0) 0) refl (eqb (getD v a 0) 1) refl
       where
-        go : (b : Bool) → eqb (getD v a 0) 0 ≡ b → (d : Bool) → eqb (getD v a 0) 1 ≡ d → Counted g o (set v a 0) (pick b t (pick d (shiftOf o (a * 2 + 1) (a * 2) t) (shiftOf o (a * 2) (a * 2 + 1) t)))
+        go : (b : Bool) → eqb (getD v a 0) 0 ≡ b → (d : Bool) → eqb (getD v a 0) 1 ≡ d → Tracks g o (set v a 0) (pick b t (pick d (shiftOf o (a * 2 + 1) (a * 2) t) (shiftOf o (a * 2) (a * 2 + 1) t)))
         go true w d u = let e : getD v a 0 ≡ 0 = eqb-true (getD v a 0) 0 w in record {
           marked = k .marked;
           small = small-set v a 0 (omega arith) (omega arith) (k .small);
@@ -110,26 +111,26 @@ module _ (g : Rules) (o : Index) (ix : Indexed g o) where
 
   -- ---- the moves
 
-  pub put-counted : (l : ℤ) (m : ℕ) (h : Held) → length (h .trail .value) ≡ 1025 → natAbs l ≤ 1024 → Counted g o (h .trail .value) (h .tally)
-      → Counted g o (putAll o l m h .trail .value) (putAll o l m h .tally)
+  pub put-counted : (l : ℤ) (m : ℕ) (h : CountedTrail) → length (h .trail .value) ≡ 1025 → natAbs l ≤ 1024 → Tracks g o (h .trail .value) (h .counters)
+      → Tracks g o (putAll o l m h .trail .value) (putAll o l m h .counters)
   unfolding putAll putOf
   put-counted l m h n s k =
       let v = h .trail .value in
       let a = natAbs l in
-      let q = release-counted v (h .tally) a k n s in
-      rw set-set at (decide-counted (set v a 0) (releaseOf o a (getD v a 0) (h .tally)) a q (rw length-set n) s (sideOf l) (getD-set-same v a 0 0 (omega arith)) (side-some l .0) (side-some l .1))
+      let q = release-counted v (h .counters) a k n s in
+      rw set-set at (decide-counted (set v a 0) (releaseOf o a (getD v a 0) (h .counters)) a q (rw length-set n) s (sideOf l) (getD-set-same v a 0 0 (omega arith)) (side-some l .0) (side-some l .1))
 
-  pub drop-counted : (j : ℕ) (h : Held) → length (h .trail .value) ≡ 1025 → natAbs (getD (h .trail .lits) j (pos 0)) ≤ 1024 → Counted g o (h .trail .value) (h .tally)
-      → Counted g o (dropAll o j h .trail .value) (dropAll o j h .tally)
+  pub drop-counted : (j : ℕ) (h : CountedTrail) → length (h .trail .value) ≡ 1025 → natAbs (getD (h .trail .lits) j (pos 0)) ≤ 1024 → Tracks g o (h .trail .value) (h .counters)
+      → Tracks g o (dropAll o j h .trail .value) (dropAll o j h .counters)
   unfolding dropAll dropOf
-  drop-counted j h n s k = release-counted (h .trail .value) (h .tally) (natAbs (getD (h .trail .lits) j (pos 0))) k n s
+  drop-counted j h n s k = release-counted (h .trail .value) (h .counters) (natAbs (getD (h .trail .lits) j (pos 0))) k n s
 
-  drop-good : (j : ℕ) (h : Held) → Good (h .trail) → j < 1024 → Good (dropAll o j h .trail)
+  drop-good : (j : ℕ) (h : CountedTrail) → Good (h .trail) → j < 1024 → Good (dropAll o j h .trail)
   unfolding dropAll
   drop-good j h f l = good-drop j (h .trail) f l
 
-  pub back-counted : (j : ℕ) (h : Held) → Good (h .trail) → j ≤ 1024 → Counted g o (h .trail .value) (h .tally)
-      → Counted g o (backAllFrom o j h .trail .value) (backAllFrom o j h .tally)
+  pub back-counted : (j : ℕ) (h : CountedTrail) → Good (h .trail) → j ≤ 1024 → Tracks g o (h .trail .value) (h .counters)
+      → Tracks g o (backAllFrom o j h .trail .value) (backAllFrom o j h .counters)
   unfolding backAllFrom
   back-counted zero h f l k = k
   back-counted (suc j) h f l k = go (eqb (getD (h .trail .marks) j 0) 1) (back-counted j (dropAll o j h) d (omega arith) c)
@@ -137,10 +138,10 @@ module _ (g : Rules) (o : Index) (ix : Indexed g o) where
       d : Good (dropAll o j h .trail)
       d = drop-good j h f (omega arith)
 
-      c : Counted g o (dropAll o j h .trail .value) (dropAll o j h .tally)
+      c : Tracks g o (dropAll o j h .trail .value) (dropAll o j h .counters)
       c = drop-counted j h (f .value-len) (f .small j) k
 
-      go : (b : Bool) → Counted g o (backAllFrom o j (dropAll o j h) .trail .value) (backAllFrom o j (dropAll o j h) .tally)
-          → Counted g o (pick b (putAll o (negℤ (getD (h .trail .lits) j (pos 0))) 2 (dropAll o j h)) (backAllFrom o j (dropAll o j h)) .trail .value) (pick b (putAll o (negℤ (getD (h .trail .lits) j (pos 0))) 2 (dropAll o j h)) (backAllFrom o j (dropAll o j h)) .tally)
+      go : (b : Bool) → Tracks g o (backAllFrom o j (dropAll o j h) .trail .value) (backAllFrom o j (dropAll o j h) .counters)
+          → Tracks g o (pick b (putAll o (negℤ (getD (h .trail .lits) j (pos 0))) 2 (dropAll o j h)) (backAllFrom o j (dropAll o j h)) .trail .value) (pick b (putAll o (negℤ (getD (h .trail .lits) j (pos 0))) 2 (dropAll o j h)) (backAllFrom o j (dropAll o j h)) .counters)
       go true r = put-counted (negℤ (getD (h .trail .lits) j (pos 0))) 2 (dropAll o j h) (d .value-len) (rw abs-neg (f .small j)) c
       go false r = r

@@ -21,10 +21,11 @@ use Rattle.search.specs.Scan.{Rules, rules, scanOf}
 use Rattle.search.specs.Soft.{AssumedEntries, FormedSoft}
 use Rattle.search.specs.Step.{unbroken, testBy, testOf, stepped, stepOf}
 use Rattle.search.proofs.StepLaws.{step-broken, step-full, step-violated, step-open, open-room, open-small}
-use Rattle.counting.specs.declared.tally.Marks.{Marks}
-use Rattle.counting.specs.Tally.{Index, index, Tally, tally, marks}
-use Rattle.counting.specs.Moves.{Held, held, Fit, putAll, dropAll, backAllFrom, backAll}
-use Rattle.counting.specs.Counts.{Marked, Counted, Indexed, Told}
+use Rattle.counting.specs.declared.counters.Marks.{Marks}
+use Rattle.counting.specs.declared.counters.Index.{Index}
+use Rattle.counting.specs.Counters.{index, Counters, counters, marks}
+use Rattle.counting.specs.Moves.{CountedTrail, countedTrail, Fit, putAll, dropAll, backAllFrom, backAll}
+use Rattle.counting.specs.Counts.{MarksRight, Tracks, Indexed, Told}
 use Rattle.counting.proofs.Telling.{told}
 use Rattle.counting.proofs.Counting.{put-counted, back-counted}
 
@@ -44,16 +45,16 @@ pub test-done : (g : Rules) (n : ℕ) (s : AssumedEntries) (v : List ℕ) (len :
 test-done g n s v len e q = q ∙ ap (testBy n s v len) e
 
 module _ {pool : List ℤ} {rows starts lists : List ℕ} {count : ℕ} {v key : List ℕ} {m : Marks} where
-  pub counted-told : Indexed (rules pool rows count) (index starts lists) → Counted (rules pool rows count) (index starts lists) v (tally key m) → Told (rules pool rows count) v key
-  counted-told i k = told (rules pool rows count) (index starts lists) i v (tally key m) k
+  pub counted-told : Indexed (rules pool rows count) (index starts lists) → Tracks (rules pool rows count) (index starts lists) v (counters key m) → Told (rules pool rows count) v key
+  counted-told i k = told (rules pool rows count) (index starts lists) i v (counters key m) k
 
-  pub counted-marked : Counted (rules pool rows count) (index starts lists) v (tally key m) → Marked count (tally key m)
+  pub counted-marked : Tracks (rules pool rows count) (index starts lists) v (counters key m) → MarksRight count (counters key m)
   counted-marked k = k .marked
 
-  pub relow : Counted (rules pool rows count) (index starts lists) v (tally key m) → {q : Marks} → Marked count (tally key q) → Counted (rules pool rows count) (index starts lists) v (tally key q)
+  pub relow : Tracks (rules pool rows count) (index starts lists) v (counters key m) → {q : Marks} → MarksRight count (counters key q) → Tracks (rules pool rows count) (index starts lists) v (counters key q)
   relow k h = record { marked = h; small = k .small; each = k .each }
 
-  pub counted-fit : Indexed (rules pool rows count) (index starts lists) → Counted (rules pool rows count) (index starts lists) v (tally key m) → {ls : List ℤ} {ms : List ℕ} {len : ℕ} → Good (places ls ms v len) → Fit (index starts lists) v key
+  pub counted-fit : Indexed (rules pool rows count) (index starts lists) → Tracks (rules pool rows count) (index starts lists) v (counters key m) → {ls : List ℤ} {ms : List ℕ} {len : ℕ} → Good (places ls ms v len) → Fit (index starts lists) v key
   counted-fit i k g = record { shaped = i .shaped; value-len = g .value-len; key-len = k .marked .long }
 
 pub indexed-few : {pool : List ℤ} {rows : List ℕ} {count : ℕ} {o : Index} → Indexed (rules pool rows count) o → count ≤ 2048
@@ -61,15 +62,15 @@ indexed-few i = i .few
 
 -- ---- the trail after a move is the one of the machine
 
-put-trail : (o : Index) (l : ℤ) (m : ℕ) (h : Held) → putAll o l m h .trail ≡ putOf l m (h .trail)
+put-trail : (o : Index) (l : ℤ) (m : ℕ) (h : CountedTrail) → putAll o l m h .trail ≡ putOf l m (h .trail)
 unfolding putAll
 put-trail o l m h = refl
 
-drop-trail : (o : Index) (k : ℕ) (h : Held) → dropAll o k h .trail ≡ dropOf k (h .trail)
+drop-trail : (o : Index) (k : ℕ) (h : CountedTrail) → dropAll o k h .trail ≡ dropOf k (h .trail)
 unfolding dropAll
 drop-trail o k h = refl
 
-pub back-trail : (o : Index) (k : ℕ) (h : Held) → backAllFrom o k h .trail ≡ backFrom k (h .trail)
+pub back-trail : (o : Index) (k : ℕ) (h : CountedTrail) → backAllFrom o k h .trail ≡ backFrom k (h .trail)
 unfolding backAllFrom backFrom dropAll putAll
 back-trail o zero h = refl
 back-trail o (suc k) h = go (eqb (getD (h .trail .marks) k 0) 1) (back-trail o k (dropAll o k h))
@@ -81,39 +82,39 @@ back-trail o (suc k) h = go (eqb (getD (h .trail .marks) k 0) 1) (back-trail o k
 
 -- ---- the step
 
-module _ (g : Rules) (n : ℕ) (s : AssumedEntries) (t : Places) (o : Index) (y : Tally) {x : Tested} where
-  pub after-broken : x ≡ testOf g n s (t .value) (t .len) → {r : ℕ} → x ≡ RuleBroken r → {t₁ : Places} {y₁ : Tally} → held t₁ y₁ ≡ backAll o (held t y) → stepped x t₁ ≡ stepOf g n s t
-  after-broken e q z = step-broken g n s t e q (ap (λ (h : Held). h .trail) z ∙ back-trail o (t .len) (held t y))
+module _ (g : Rules) (n : ℕ) (s : AssumedEntries) (t : Places) (o : Index) (y : Counters) {x : Tested} where
+  pub after-broken : x ≡ testOf g n s (t .value) (t .len) → {r : ℕ} → x ≡ RuleBroken r → {t₁ : Places} {y₁ : Counters} → countedTrail t₁ y₁ ≡ backAll o (countedTrail t y) → stepped x t₁ ≡ stepOf g n s t
+  after-broken e q z = step-broken g n s t e q (ap (λ (h : CountedTrail). h .trail) z ∙ back-trail o (t .len) (countedTrail t y))
 
-  pub after-violated : x ≡ testOf g n s (t .value) (t .len) → {i : ℕ} → x ≡ SoftViolated i → {t₁ : Places} {y₁ : Tally} → held t₁ y₁ ≡ backAll o (held t y) → stepped x t₁ ≡ stepOf g n s t
-  after-violated e q z = step-violated g n s t e q (ap (λ (h : Held). h .trail) z ∙ back-trail o (t .len) (held t y))
+  pub after-violated : x ≡ testOf g n s (t .value) (t .len) → {i : ℕ} → x ≡ SoftViolated i → {t₁ : Places} {y₁ : Counters} → countedTrail t₁ y₁ ≡ backAll o (countedTrail t y) → stepped x t₁ ≡ stepOf g n s t
+  after-violated e q z = step-violated g n s t e q (ap (λ (h : CountedTrail). h .trail) z ∙ back-trail o (t .len) (countedTrail t y))
 
 pub after-full : (g : Rules) (n : ℕ) (s : AssumedEntries) (ls : List ℤ) (ms v : List ℕ) {k len : ℕ} {x : Tested} → x ≡ testOf g n s v len → x ≡ Full → k ≡ len → stepped x (places ls ms v k) ≡ stepOf g n s (places ls ms v len)
 after-full g n s ls ms v {len = len} e q z = rw z (step-full g n s (places ls ms v len) e q)
 
-pub after-open : (pool : List ℤ) (rows : List ℕ) (count n : ℕ) (s : AssumedEntries) (t : Places) (o : Index) (y : Tally) {x : Tested} {l : ℤ} → Formed n pool rows count → FormedSoft n s
-    → x ≡ testOf (rules pool rows count) n s (t .value) (t .len) → x ≡ Open l → {t₁ : Places} {y₁ : Tally} → held t₁ y₁ ≡ putAll o (toZ w32 (ofZ w32 l)) 1 (held t y) → stepped (Open l) t₁ ≡ stepOf (rules pool rows count) n s t
-after-open pool rows count n s t o y {l = l} f w e q z = step-open pool rows count n s t f w e q (ap (λ (h : Held). h .trail) z ∙ put-trail o (toZ w32 (ofZ w32 l)) 1 (held t y))
+pub after-open : (pool : List ℤ) (rows : List ℕ) (count n : ℕ) (s : AssumedEntries) (t : Places) (o : Index) (y : Counters) {x : Tested} {l : ℤ} → Formed n pool rows count → FormedSoft n s
+    → x ≡ testOf (rules pool rows count) n s (t .value) (t .len) → x ≡ Open l → {t₁ : Places} {y₁ : Counters} → countedTrail t₁ y₁ ≡ putAll o (toZ w32 (ofZ w32 l)) 1 (countedTrail t y) → stepped (Open l) t₁ ≡ stepOf (rules pool rows count) n s t
+after-open pool rows count n s t o y {l = l} f w e q z = step-open pool rows count n s t f w e q (ap (λ (h : CountedTrail). h .trail) z ∙ put-trail o (toZ w32 (ofZ w32 l)) 1 (countedTrail t y))
 
-module _ {g : Rules} {o : Index} (t : Places) (y : Tally) where
-  pub counted-back : Indexed g o → Good t → Counted g o (t .value) y → {ls₁ : List ℤ} {ms₁ v₁ : List ℕ} {k₁ : ℕ} {y₁ : Tally} → held (places ls₁ ms₁ v₁ k₁) y₁ ≡ backAll o (held t y) → Counted g o v₁ y₁
+module _ {g : Rules} {o : Index} (t : Places) (y : Counters) where
+  pub counted-back : Indexed g o → Good t → Tracks g o (t .value) y → {ls₁ : List ℤ} {ms₁ v₁ : List ℕ} {k₁ : ℕ} {y₁ : Counters} → countedTrail (places ls₁ ms₁ v₁ k₁) y₁ ≡ backAll o (countedTrail t y) → Tracks g o v₁ y₁
   counted-back i f k {v₁ = v₁} {y₁ = y₁} z =
-      let c = back-counted g o i (t .len) (held t y) f (f .short) k in
-      let p : v₁ ≡ backAll o (held t y) .trail .value = ap (λ (h : Held). h .trail .value) z in
-      let q : y₁ ≡ backAll o (held t y) .tally = ap (λ (h : Held). h .tally) z in
+      let c = back-counted g o i (t .len) (countedTrail t y) f (f .short) k in
+      let p : v₁ ≡ backAll o (countedTrail t y) .trail .value = ap (λ (h : CountedTrail). h .trail .value) z in
+      let q : y₁ ≡ backAll o (countedTrail t y) .counters = ap (λ (h : CountedTrail). h .counters) z in
       rw (p, q) c
 
-  pub counted-push : Indexed g o → Good t → Counted g o (t .value) y → (l : ℤ) → natAbs l ≤ 1024 → {ls₁ : List ℤ} {ms₁ v₁ : List ℕ} {k₁ : ℕ} {y₁ : Tally} → held (places ls₁ ms₁ v₁ k₁) y₁ ≡ putAll o l 1 (held t y) → Counted g o v₁ y₁
+  pub counted-push : Indexed g o → Good t → Tracks g o (t .value) y → (l : ℤ) → natAbs l ≤ 1024 → {ls₁ : List ℤ} {ms₁ v₁ : List ℕ} {k₁ : ℕ} {y₁ : Counters} → countedTrail (places ls₁ ms₁ v₁ k₁) y₁ ≡ putAll o l 1 (countedTrail t y) → Tracks g o v₁ y₁
   counted-push i f k l s {v₁ = v₁} {y₁ = y₁} z =
-      let c = put-counted g o i l 1 (held t y) (f .value-len) s k in
-      let p : v₁ ≡ putAll o l 1 (held t y) .trail .value = ap (λ (h : Held). h .trail .value) z in
-      let q : y₁ ≡ putAll o l 1 (held t y) .tally = ap (λ (h : Held). h .tally) z in
+      let c = put-counted g o i l 1 (countedTrail t y) (f .value-len) s k in
+      let p : v₁ ≡ putAll o l 1 (countedTrail t y) .trail .value = ap (λ (h : CountedTrail). h .trail .value) z in
+      let q : y₁ ≡ putAll o l 1 (countedTrail t y) .counters = ap (λ (h : CountedTrail). h .counters) z in
       rw (p, q) c
 
-pub counted-same : {g : Rules} {o : Index} {v key : List ℕ} {m m₁ : Marks} → Counted g o v (tally key m) → m₁ ≡ m → Counted g o v (tally key m₁)
+pub counted-same : {g : Rules} {o : Index} {v key : List ℕ} {m m₁ : Marks} → Tracks g o v (counters key m) → m₁ ≡ m → Tracks g o v (counters key m₁)
 counted-same k e = rw e k
 
-pub counted-open : {pool : List ℤ} {rows : List ℕ} {count n : ℕ} {o : Index} {s : AssumedEntries} {ls : List ℤ} {ms v : List ℕ} {len : ℕ} {y : Tally} {x : Tested} → Formed n pool rows count → FormedSoft n s → Indexed (rules pool rows count) o → Good (places ls ms v len)
-    → x ≡ testOf (rules pool rows count) n s v len → Counted (rules pool rows count) o v y → {l : ℤ} → x ≡ Open l
-    → {ls₁ : List ℤ} {ms₁ v₁ : List ℕ} {k₁ : ℕ} {y₁ : Tally} → held (places ls₁ ms₁ v₁ k₁) y₁ ≡ putAll o (toZ w32 (ofZ w32 l)) 1 (held (places ls ms v len) y) → Counted (rules pool rows count) o v₁ y₁
+pub counted-open : {pool : List ℤ} {rows : List ℕ} {count n : ℕ} {o : Index} {s : AssumedEntries} {ls : List ℤ} {ms v : List ℕ} {len : ℕ} {y : Counters} {x : Tested} → Formed n pool rows count → FormedSoft n s → Indexed (rules pool rows count) o → Good (places ls ms v len)
+    → x ≡ testOf (rules pool rows count) n s v len → Tracks (rules pool rows count) o v y → {l : ℤ} → x ≡ Open l
+    → {ls₁ : List ℤ} {ms₁ v₁ : List ℕ} {k₁ : ℕ} {y₁ : Counters} → countedTrail (places ls₁ ms₁ v₁ k₁) y₁ ≡ putAll o (toZ w32 (ofZ w32 l)) 1 (countedTrail (places ls ms v len) y) → Tracks (rules pool rows count) o v₁ y₁
 counted-open {pool} {rows} {count} {n} {o} {s} {ls} {ms} {v} {len} {y} f w i g e k {l} q z = counted-push (places ls ms v len) y i g k (toZ w32 (ofZ w32 l)) (open-small pool rows count n s v len f w e q) z

@@ -9,14 +9,15 @@ use lib.ListN.{length, getD}
 use Rattle.asp.specs.Sets.{pick}
 use Rattle.search.specs.declared.trail.Places.{Places}
 use Rattle.search.specs.Places.{places, sideOf, putOf, dropOf}
-use Rattle.counting.specs.Tally.{Index, Shaped, Tally, tally, decideOf, releaseOf}
+use Rattle.counting.specs.declared.counters.Index.{Index}
+use Rattle.counting.specs.Counters.{Shaped, Counters, counters, decideOf, releaseOf}
 
-pub record Held : Type 0 where
+pub record CountedTrail : Type 0 where
   pub trail : Places
-  pub tally : Tally
+  pub counters : Counters
 
-abbrev pub held : Places → Tally → Held
-held t y = record { trail = t; tally = y }
+abbrev pub countedTrail : Places → Counters → CountedTrail
+countedTrail t y = record { trail = t; counters = y }
 
 -- the tables have their sizes
 pub record Fit (o : Index) (value key : List ℕ) : Type 0 where
@@ -24,18 +25,18 @@ pub record Fit (o : Index) (value key : List ℕ) : Type 0 where
   pub value-len : length value ≡ 1025
   pub key-len : length key ≡ 2048
 
-unfoldable pub putAll : Index → ℤ → ℕ → Held → Held
-putAll o l m h = held (putOf l m (h .trail)) (decideOf o (natAbs l) (sideOf l) (releaseOf o (natAbs l) (getD (h .trail .value) (natAbs l) 0) (h .tally)))
+unfoldable pub putAll : Index → ℤ → ℕ → CountedTrail → CountedTrail
+putAll o l m h = countedTrail (putOf l m (h .trail)) (decideOf o (natAbs l) (sideOf l) (releaseOf o (natAbs l) (getD (h .trail .value) (natAbs l) 0) (h .counters)))
 
-abbrev pub pushAll : Index → ℤ → Held → Held
+abbrev pub pushAll : Index → ℤ → CountedTrail → CountedTrail
 pushAll o l h = putAll o l 1 h
 
-unfoldable pub dropAll : Index → ℕ → Held → Held
-dropAll o k h = held (dropOf k (h .trail)) (releaseOf o (natAbs (getD (h .trail .lits) k (pos 0))) (getD (h .trail .value) (natAbs (getD (h .trail .lits) k (pos 0))) 0) (h .tally))
+unfoldable pub dropAll : Index → ℕ → CountedTrail → CountedTrail
+dropAll o k h = countedTrail (dropOf k (h .trail)) (releaseOf o (natAbs (getD (h .trail .lits) k (pos 0))) (getD (h .trail .value) (natAbs (getD (h .trail .lits) k (pos 0))) 0) (h .counters))
 
-unfoldable pub backAllFrom : Index → ℕ → Held → Held
+unfoldable pub backAllFrom : Index → ℕ → CountedTrail → CountedTrail
 backAllFrom o zero h = h
 backAllFrom o (suc k) h = pick (eqb (getD (h .trail .marks) k 0) 1) (putAll o (negℤ (getD (h .trail .lits) k (pos 0))) 2 (dropAll o k h)) (backAllFrom o k (dropAll o k h))
 
-abbrev pub backAll : Index → Held → Held
+abbrev pub backAll : Index → CountedTrail → CountedTrail
 backAll o h = backAllFrom o (h .trail .len) h

@@ -1,6 +1,6 @@
 // The test of a trail, and one step of the machine, by the numbers of the rules.
+use crate::counters::Marks;
 use crate::scan;
-use crate::tally::Marks;
 use crate::trail;
 use search::scan::Found;
 use search::step;
@@ -13,17 +13,17 @@ ghost use Rattle.search.specs.Scan.{rules};
 ghost use Rattle.search.specs.Soft.{assumedEntries, ReadableSoft, FormedSoft};
 ghost use Rattle.search.specs.Branch.{Noted};
 ghost use Rattle.search.specs.Step.{testBy, testOf, stepped, stepOf};
-ghost use Rattle.counting.specs.Tally.{index, tally, marks};
-ghost use Rattle.counting.specs.Counts.{Counted, Indexed, Told, Marked};
+ghost use Rattle.counting.specs.Counters.{index, counters, marks};
+ghost use Rattle.counting.specs.Counts.{Tracks, Indexed, Told, MarksRight};
 
 // What the test says, and the marks after it.
-pub struct Judged {
+pub struct Examined {
     pub tested: Tested,
     pub marks: Marks,
 }
 
 // What a step came to, the trail's length and the marks after it.
-pub struct Outcome {
+pub struct AfterStep {
     pub tested: Tested,
     pub len: usize,
     pub marks: Marks,
@@ -66,16 +66,16 @@ fn test<'a>(
     value: &'a [u8; 1025],
     len: usize,
     m: Marks,
-) -> Judged
+) -> Examined
     requires { ⌜ Formed n (now pool) (now rows) rulecount ⌝ }
     requires { ⌜ FormedSoft n (assumedEntries (now wished) (now blamed) count) ⌝ }
-    requires { ⌜ Indexed (rules (now pool) (now rows) rulecount) (index (now starts) (now lists)) × Counted (rules (now pool) (now rows) rulecount) (index (now starts) (now lists)) (now value) (tally (now key) m) ⌝ }
-    ensures { λ r. ⌜ (r .tested ≡ testOf (rules (now (pool .entry)) (now (rows .entry)) rulecount) n (assumedEntries (now (wished .entry)) (now (blamed .entry)) count) (now (value .entry)) len) × Counted (rules (now (pool .entry)) (now (rows .entry)) rulecount) (index (now (starts .entry)) (now (lists .entry))) (now (value .entry)) (tally (now (key .entry)) (r .marks)) ⌝ }
+    requires { ⌜ Indexed (rules (now pool) (now rows) rulecount) (index (now starts) (now lists)) × Tracks (rules (now pool) (now rows) rulecount) (index (now starts) (now lists)) (now value) (counters (now key) m) ⌝ }
+    ensures { λ r. ⌜ (r .tested ≡ testOf (rules (now (pool .entry)) (now (rows .entry)) rulecount) n (assumedEntries (now (wished .entry)) (now (blamed .entry)) count) (now (value .entry)) len) × Tracks (rules (now (pool .entry)) (now (rows .entry)) rulecount) (index (now (starts .entry)) (now (lists .entry))) (now (value .entry)) (counters (now (key .entry)) (r .marks)) ⌝ }
 {
     let s = scan::scan(pool, rows, rulecount, key, m, value);
     let found = s.found;
     let t = test_by(found, n, wished, blamed, count, value, len);
-    Judged {
+    Examined {
         tested: t,
         marks: Marks {
             broken: m.broken,
@@ -101,12 +101,12 @@ pub fn step<'a>(
     key: &mut [u16; 2048],
     len: usize,
     m: Marks,
-) -> Outcome
+) -> AfterStep
     requires { ⌜ Formed n (now pool) (now rows) rulecount ⌝ }
     requires { ⌜ FormedSoft n (assumedEntries (now wished) (now blamed) count) ⌝ }
     requires { ⌜ Good (places (now lits) (now signs) (now value) len) ⌝ }
-    requires { ⌜ Indexed (rules (now pool) (now rows) rulecount) (index (now starts) (now lists)) × Counted (rules (now pool) (now rows) rulecount) (index (now starts) (now lists)) (now value) (tally (now key) m) ⌝ }
-    ensures { λ r. ⌜ (stepped (r .tested) (places (now (lits .exit)) (now (signs .exit)) (now (value .exit)) (r .len)) ≡ stepOf (rules (now (pool .entry)) (now (rows .entry)) rulecount) n (assumedEntries (now (wished .entry)) (now (blamed .entry)) count) (places (now (lits .entry)) (now (signs .entry)) (now (value .entry)) len)) × Counted (rules (now (pool .entry)) (now (rows .entry)) rulecount) (index (now (starts .entry)) (now (lists .entry))) (now (value .exit)) (tally (now (key .exit)) (r .marks)) ⌝ }
+    requires { ⌜ Indexed (rules (now pool) (now rows) rulecount) (index (now starts) (now lists)) × Tracks (rules (now pool) (now rows) rulecount) (index (now starts) (now lists)) (now value) (counters (now key) m) ⌝ }
+    ensures { λ r. ⌜ (stepped (r .tested) (places (now (lits .exit)) (now (signs .exit)) (now (value .exit)) (r .len)) ≡ stepOf (rules (now (pool .entry)) (now (rows .entry)) rulecount) n (assumedEntries (now (wished .entry)) (now (blamed .entry)) count) (places (now (lits .entry)) (now (signs .entry)) (now (value .entry)) len)) × Tracks (rules (now (pool .entry)) (now (rows .entry)) rulecount) (index (now (starts .entry)) (now (lists .entry))) (now (value .exit)) (counters (now (key .exit)) (r .marks)) ⌝ }
 {
     let x = test(
         pool,
@@ -129,13 +129,13 @@ pub fn step<'a>(
         Tested::RuleBroken(_) => {
             let k = trail::back(starts, lists, lits, signs, value, key, len, q);
             let after = k.marks;
-            Outcome {
+            AfterStep {
                 tested: t,
                 len: k.len,
                 marks: after,
             }
         }
-        Tested::Full => Outcome {
+        Tested::Full => AfterStep {
             tested: t,
             len: len,
             marks: q,
@@ -143,7 +143,7 @@ pub fn step<'a>(
         Tested::SoftViolated(_) => {
             let k = trail::back(starts, lists, lits, signs, value, key, len, q);
             let after = k.marks;
-            Outcome {
+            AfterStep {
                 tested: t,
                 len: k.len,
                 marks: after,
@@ -152,7 +152,7 @@ pub fn step<'a>(
         Tested::Open(l) => {
             let k = trail::push(starts, lists, lits, signs, value, key, len, l, q);
             let after = k.marks;
-            Outcome {
+            AfterStep {
                 tested: t,
                 len: k.len,
                 marks: after,

@@ -10,7 +10,7 @@ use lib.IntN.{ℤ, pos, negsuc, negℤ, natAbs}
 use lib.ListN.{length, getD}
 use mir.Facts.{and-yes, yes-and, or-yes}
 use borrow.Author.Tests.{eqb-true, eqb-false, ltb-true, ltb-false, lt-ltb, le-ltb, eq-eqb, ne-eqb}
-use Rattle.asp.specs.Sets.{Set, Sub, In, Only, setOf, pick, same}
+use Rattle.asp.specs.Sets.{Set, Sub, In, Only, setOf, pick, same, ind}
 use Rattle.asp.specs.Program.{Rule, Head, constraint, plain, choice, All, RuleIn}
 use Rattle.asp.specs.Stable.{holds, holdsIn, allHold, bodyHolds, member, headAdds, ruleAdds, adds, constraintFails, anyViolated, Stable, Closed, closure, isStable}
 use Rattle.asp.specs.Tables.{span, named, literalsAt, atomsAt, Row, rowAt, headAt, bodyAt, ruleAt, rulesOf, Formed}
@@ -23,13 +23,14 @@ use Rattle.asp.proofs.Signed.{clash, abs-neg}
 use Rattle.search.specs.Places.{truthOf, truthAt}
 use Rattle.search.specs.Scan.{Rules, rules, rowOf, condAt}
 use Rattle.search.proofs.Formed.{named-is, rule-in, atom-in}
-use Rattle.counting.specs.Tally.{Index, Tally, first, many}
-use Rattle.counting.specs.Counts.{ind, sumFrom, countFrom, timesIn, weigh, term, keyOf, listOf, Counted}
+use Rattle.counting.specs.declared.counters.Index.{Index}
+use Rattle.counting.specs.Counters.{Counters, first, listLength}
+use Rattle.counting.specs.Counts.{sumFrom, countFrom, timesIn, weigh, term, keyOf, listOf, Tracks}
 use Rattle.counting.proofs.Sums.{sum-none}
 use Rattle.counting.proofs.Support.{supported}
-use Rattle.indexing.specs.Sorting.{spotOf, midIn, loIn, hiIn, seen, stands, Readied, Sorted}
+use Rattle.indexing.specs.Sorting.{spotOf, midIn, loIn, hiIn, occurs, stands, Readied, Sorted}
 use Rattle.indexing.specs.Leaf.{Whole, Unbroken, Leaf, Supports, Unsupported}
-use Rattle.indexing.proofs.Indexing.{Held, in-list, listed, lo-plain, lo-choice, seen-there, lo-hi, indexed}
+use Rattle.indexing.proofs.Indexing.{StandsAt, in-list, listed, lo-plain, lo-choice, seen-there, lo-hi, indexed}
 
 -- ---- sums with one term
 
@@ -109,7 +110,7 @@ head-adds M pool w a t = go (eqb (w .a) 1) refl (eqb (w .c) 0) refl
 
 -- ---- the number of a rule that adds an atom of the set
 
-module _ (n : ℕ) (pool : List ℤ) (rows : List ℕ) (count : ℕ) (form : Formed n pool rows count) (o h : Index) (v : List ℕ) (t : Tally) (leaf : Leaf (rules pool rows count) n o h v t) where
+module _ (n : ℕ) (pool : List ℤ) (rows : List ℕ) (count : ℕ) (form : Formed n pool rows count) (o h : Index) (v : List ℕ) (t : Counters) (leaf : Leaf (rules pool rows count) n o h v t) where
   abbrev G : Rules
   G = rules pool rows count
 
@@ -130,21 +131,21 @@ module _ (n : ℕ) (pool : List ℤ) (rows : List ℕ) (count : ℕ) (form : For
     cond-body k a = rw (le-ltb k (W .b + W .c) a)
 
     -- a literal that is true wherever it is held weighs nothing
-    weigh-lit : (l : ℤ) → 1 ≤ natAbs l → (Held G (leaf .readied) r c l → truthAt v l ≡ 1) → weigh (timesIn o r (listOf l)) (truthAt v l) ≡ 0
+    weigh-lit : (l : ℤ) → 1 ≤ natAbs l → (StandsAt G (leaf .readied) r c l → truthAt v l ≡ 1) → weigh (timesIn o r (listOf l)) (truthAt v l) ≡ 0
     weigh-lit l p f = go (timesIn o r (listOf l)) refl
       where
         go : (m : ℕ) → timesIn o r (listOf l) ≡ m → weigh m (truthAt v l) ≡ 0
         go zero e = weigh-none (truthAt v l)
         go (suc m) e = let z = f (in-list G o (leaf .readied) (leaf .conditions) r l c p (λ w. absurd (omega arith))) in rw z
 
-    term-zero : (a : ℕ) → ((l : ℤ) → natAbs l ≡ a → Held G (leaf .readied) r c l → truthAt v l ≡ 1) → term o r a (getD v a 0) ≡ 0
+    term-zero : (a : ℕ) → ((l : ℤ) → natAbs l ≡ a → StandsAt G (leaf .readied) r c l → truthAt v l ≡ 1) → term o r a (getD v a 0) ≡ 0
     term-zero zero f =
         let ix = indexed G o (leaf .readied) (leaf .conditions) in
         rw (ix .none r .0, ix .none r .1) (ap₂ (λ (x y : ℕ). x + y) (weigh-none (truthOf (pos 0) (getD v 0 0))) (weigh-none (truthOf (negsuc 0) (getD v 0 0))))
     term-zero (suc a) f = ap₂ (λ (x y : ℕ). x + y) (weigh-lit (pos (suc a)) (omega arith) (f (pos (suc a)) refl)) (weigh-lit (negsuc a) (omega arith) (f (negsuc a) refl))
 
     -- a literal that is held in the body
-    in-body : (l : ℤ) (p : Held G (leaf .readied) r c l) → W .b + W .c ≤ p .at → truthAt v l ≡ 1
+    in-body : (l : ℤ) (p : StandsAt G (leaf .readied) r c l) → W .b + W .c ≤ p .at → truthAt v l ≡ 1
     in-body l p a = let z : l ≡ getD pool (p .at) (pos 0) = sym (p .is) ∙ cond-body (p .at) a in rw z (body-true (p .at) a (p .to))
 
     body-key : W .b + W .c ≤ loIn false rows r → sumFrom (λ a. term o r a (getD v a 0)) 0 1025 ≡ 0
@@ -164,7 +165,7 @@ module _ (n : ℕ) (pool : List ℤ) (rows : List ℕ) (count : ℕ) (form : For
       cond-head : condAt pool (W .b + W .c) (W .b) ≡ negsuc a
       cond-head = rw (lt-ltb (W .b) (W .b + W .c) (omega arith), head)
 
-      other : (l : ℤ) → (l ≡ negsuc a → ⊥) → Held G (leaf .readied) r c l → truthAt v l ≡ 1
+      other : (l : ℤ) → (l ≡ negsuc a → ⊥) → StandsAt G (leaf .readied) r c l → truthAt v l ≡ 1
       other l m p = go (ltb (p .at) (W .b + W .c)) refl
         where
           go : (x : Bool) → ltb (p .at) (W .b + W .c) ≡ x → truthAt v l ≡ 1
@@ -224,7 +225,7 @@ module _ (n : ℕ) (pool : List ℤ) (rows : List ℕ) (count : ℕ) (form : For
   unsupported-adds a i k un r c u =
       let hd = head-adds M pool (rowAt rows r) a (and-yes (bodyHolds M M (ruleAt pool (rowAt rows r) .body)) (headAdds M (headAt pool (rowAt rows r)) a) u .1) in
       let s : timesIn h r a ≡ 1 = leaf .heads .times r a (omega (arith, i .1, form .few)) c ∙ ap ind (head-stands r a c i hd) in
-      let z : timesIn h r a ≡ 0 = sum-none (λ x. ind (eqb (getD (h .rules) x 0) r)) (first h a) (many h a) (λ e p q. ap ind (ne-eqb (getD (h .rules) e 0) r (λ w. un .none e p q (rw w (adds-two r c a u k))))) in
+      let z : timesIn h r a ≡ 0 = sum-none (λ x. ind (eqb (getD (h .rules) x 0) r)) (first h a) (listLength h a) (λ e p q. ap ind (ne-eqb (getD (h .rules) e 0) r (λ w. un .none e p q (rw w (adds-two r c a u k))))) in
       absurd (omega arith)
 
   -- ---- all rules
@@ -279,7 +280,7 @@ module _ (n : ℕ) (pool : List ℤ) (rows : List ℕ) (count : ℕ) (form : For
   key-broken r c body m (suc a) i one hd u =
       rw (ne-eqb (rowAt rows r .a) 1 m) (omega (arith, sum-none (λ x. term o r x (getD v x 0)) 0 1025 (λ x p q. term-zero r c body x (λ l e k. each l k (ltb (k .at) (rowAt rows r .b + rowAt rows r .c)) refl))))
     where
-      each : (l : ℤ) (k : Held G (leaf .readied) r c l) → (b : Bool) → ltb (k .at) (rowAt rows r .b + rowAt rows r .c) ≡ b → truthAt v l ≡ 1
+      each : (l : ℤ) (k : StandsAt G (leaf .readied) r c l) → (b : Bool) → ltb (k .at) (rowAt rows r .b + rowAt rows r .c) ≡ b → truthAt v l ≡ 1
       each l k true e =
           let w = lo-plain G (leaf .readied) r c m in
           let z : k .at ≡ rowAt rows r .b = omega (arith, k .from, ltb-true (k .at) (rowAt rows r .b + rowAt rows r .c) e) in

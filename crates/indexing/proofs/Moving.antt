@@ -1,5 +1,5 @@
--- The moves keep `Tallied`; a full trail that the machine's test leaves is a leaf. Assumes nothing.
-use mathlib.Core.Path.{_≡_, refl, sym, ap, _∙_}
+-- The moves keep `Equipped`; a full trail that the machine's test leaves is a leaf. Assumes nothing.
+use mathlib.Core.Path.{_≡_, refl, sym, ap, ap₂, _∙_}
 use mathlib.Core.Bool.{Bool, true, false}
 use mathlib.Core.List.{List, [], _∷_}
 use Prim.Native.Nat.{ℕ, zero, suc, _+_, _-_, _*_, _≤_, _<_}
@@ -32,45 +32,48 @@ use Rattle.search.proofs.Opens.{zero-off}
 use Rattle.search.proofs.TrailTables.{trail-length}
 use Rattle.counting.specs.Counts.{Tells}
 use Rattle.counting.proofs.Telling.{told}
-use Rattle.counting.specs.declared.tally.Marks.{Marks}
-use Rattle.counting.specs.Tally.{Index, index, Tally, tally}
-use Rattle.counting.specs.Moves.{Held, held, Fit, backAll}
-use Rattle.counting.specs.Counts.{Counted, Indexed}
+use Rattle.counting.specs.declared.counters.Marks.{Marks}
+use Rattle.counting.specs.declared.counters.Index.{Index}
+use Rattle.counting.specs.Counters.{index, Counters, counters}
+use Rattle.counting.specs.Moves.{CountedTrail, countedTrail, Fit, backAll}
+use Rattle.counting.specs.Counts.{Tracks, Indexed}
 use Rattle.counting.proofs.StepLaws.{back-trail, counted-back, counted-fit}
 use Rattle.indexing.specs.Sorting.{Readied, Sorted}
-use Rattle.indexing.specs.Leaf.{Whole, Unbroken, Leaf, Tallied}
+use Rattle.indexing.specs.declared.build.Occurrences.{Occurrences}
+use Rattle.indexing.specs.Leaf.{Whole, Unbroken, Leaf, noIndex, noOccurrences, Indexes, Equipped}
 use Rattle.indexing.proofs.Indexing.{indexed}
 
-module _ {g : Rules} {o h : Index} {v : List ℕ} {t : Tally} (x : Tallied g o h v t) where
-  pub tallied-indexed : Indexed g o
-  tallied-indexed = indexed g o (x .readied) (x .conditions)
+module _ {g : Rules} {o h : Index} {v : List ℕ} {t : Counters} (x : Equipped g o h v t) where
+  pub equipped-indexed : Indexed g o
+  equipped-indexed = indexed g o (x .readied) (x .conditions)
 
-  pub tallied-counted : Counted g o v t
-  tallied-counted = x .counted
+  pub equipped-tracks : Tracks g o v t
+  equipped-tracks = x .counted
 
-  pub tallied-after : {v₁ : List ℕ} {t₁ : Tally} → Counted g o v₁ t₁ → Tallied g o h v₁ t₁
-  tallied-after k = record { readied = x .readied; conditions = x .conditions; heads = x .heads; counted = k }
+  pub equipped-after : {v₁ : List ℕ} {t₁ : Counters} → Tracks g o v₁ t₁ → Equipped g o h v₁ t₁
+  equipped-after k = record { readied = x .readied; conditions = x .conditions; heads = x .heads; counted = k }
 
-module _ {g : Rules} {starts lists : List ℕ} {h : Index} {v key : List ℕ} {m : Marks} (x : Tallied g (index starts lists) h v (tally key m)) where
-  pub tallied-fit : {ls : List ℤ} {ms : List ℕ} {len : ℕ} → Good (places ls ms v len) → Fit (index starts lists) v key
-  tallied-fit f = record { shaped = x .conditions .shaped; value-len = f .value-len; key-len = x .counted .marked .long }
+module _ {g : Rules} {starts lists : List ℕ} {h : Index} {v key : List ℕ} {m : Marks} (x : Equipped g (index starts lists) h v (counters key m)) where
+  pub equipped-fit : {ls : List ℤ} {ms : List ℕ} {len : ℕ} → Good (places ls ms v len) → Fit (index starts lists) v key
+  equipped-fit f = record { shaped = x .conditions .shaped; value-len = f .value-len; key-len = x .counted .marked .long }
 
-pub back-is : (o : Index) (t : Places) (y : Tally) {t₁ : Places} {y₁ : Tally} → held t₁ y₁ ≡ backAll o (held t y) → t₁ ≡ backOf t
-back-is o t y z = ap (λ (h : Held). h .trail) z ∙ back-trail o (t .len) (held t y)
+pub back-is : (o : Index) (t : Places) (y : Counters) {t₁ : Places} {y₁ : Counters} → countedTrail t₁ y₁ ≡ backAll o (countedTrail t y) → t₁ ≡ backOf t
+back-is o t y z = ap (λ (h : CountedTrail). h .trail) z ∙ back-trail o (t .len) (countedTrail t y)
 
-module _ {g : Rules} {o h : Index} {ls : List ℤ} {ms v : List ℕ} {len : ℕ} {y : Tally} (x : Tallied g o h v y) (f : Good (places ls ms v len)) where
-  pub back-tallied : {ls₁ : List ℤ} {ms₁ v₁ : List ℕ} {k₁ : ℕ} {y₁ : Tally} → held (places ls₁ ms₁ v₁ k₁) y₁ ≡ backAll o (held (places ls ms v len) y) → Tallied g o h v₁ y₁
-  back-tallied z = tallied-after x (counted-back (places ls ms v len) y (tallied-indexed x) f (x .counted) z)
+module _ {g : Rules} {o h : Index} {ls : List ℤ} {ms v : List ℕ} {len : ℕ} {y : Counters} (x : Equipped g o h v y) (f : Good (places ls ms v len)) where
+  pub back-equipped : {ls₁ : List ℤ} {ms₁ v₁ : List ℕ} {k₁ : ℕ} {y₁ : Counters} → countedTrail (places ls₁ ms₁ v₁ k₁) y₁ ≡ backAll o (countedTrail (places ls ms v len) y) → Equipped g o h v₁ y₁
+  back-equipped z = equipped-after x (counted-back (places ls ms v len) y (equipped-indexed x) f (x .counted) z)
 
-module _ {g : Rules} {o h : Index} where
-  pub prepared : Readied g → Sorted false g o → Sorted true g h → {v : List ℕ} {t : Tally} → Counted g o v t → Tallied g o h v t
-  prepared r c k e = record { readied = r; conditions = c; heads = k; counted = e }
+module _ {g : Rules} {o h : Index} (x : Indexes g o h) where
+  pub lists-indexed : Indexed g o
+  lists-indexed = indexed g o (x .readied) (x .conditions)
 
-pub sorted-indexed : {g : Rules} {o : Index} → Readied g → Sorted false g o → Indexed g o
-sorted-indexed {g} {o} r c = indexed g o r c
+  -- the numbers filled in for the values of a trail
+  pub equipped : {v : List ℕ} {t : Counters} → Tracks g o v t → Equipped g o h v t
+  equipped e = record { readied = x .readied; conditions = x .conditions; heads = x .heads; counted = e }
 
-pub readied-long : {pool : List ℤ} {rows : List ℕ} {count : ℕ} → Readied (rules pool rows count) → count * 4 ≤ length rows
-readied-long r = r .readable .long
+pub lists-long : {pool : List ℤ} {rows : List ℕ} {count : ℕ} {o h : Index} → Indexes (rules pool rows count) o h → count * 4 ≤ length rows
+lists-long x = x .readied .readable .long
 
 -- ---- a full trail
 
@@ -154,8 +157,8 @@ full-says n s v len (Breaker l) u = (full-long n s v len (Breaker l) u, λ k. k)
 full-says n s v len Clear u = (full-long n s v len Clear u, λ k. k)
 
 -- A full trail that the test leaves to the judge is a leaf.
-module _ {n : ℕ} {pool : List ℤ} {rows : List ℕ} {count : ℕ} (s : AssumedEntries) (t : Places) {t₁ : Places} {o h : Index} {y : Tally} {x : Tested} where
-  pub full-leaf : stepped x t₁ ≡ stepOf (rules pool rows count) n s t → x ≡ Full → SoundTrail n t₁ → Tallied (rules pool rows count) o h (t₁ .value) y → Leaf (rules pool rows count) n o h (t₁ .value) y
+module _ {n : ℕ} {pool : List ℤ} {rows : List ℕ} {count : ℕ} (s : AssumedEntries) (t : Places) {t₁ : Places} {o h : Index} {y : Counters} {x : Tested} where
+  pub full-leaf : stepped x t₁ ≡ stepOf (rules pool rows count) n s t → x ≡ Full → SoundTrail n t₁ → Equipped (rules pool rows count) o h (t₁ .value) y → Leaf (rules pool rows count) n o h (t₁ .value) y
   full-leaf e q f k =
       let g = rules pool rows count in
       let z : testOf (rules pool rows count) n s (t .value) (t .len) ≡ Full = sym (ap (λ (w : Stepped). w .tested) e) ∙ q in
@@ -171,21 +174,20 @@ module _ {n : ℕ} {pool : List ℤ} {rows : List ℕ} {count : ℕ} (s : Assume
         whole = whole f (says .0);
         unbroken = record {
           unbroken = λ r c w. says .1 (scan-broken (restOf (rules pool rows count) (t₁ .value)) Clear 0 count r (omega arith) (omega arith)
-              (tells-zero (restOf (rules pool rows count) (t₁ .value) r) (getD (y .key) r 0) (told (rules pool rows count) o (tallied-indexed k) (t₁ .value) y (k .counted) .each r c) w));
+              (tells-zero (restOf (rules pool rows count) (t₁ .value) r) (getD (y .key) r 0) (told (rules pool rows count) o (equipped-indexed k) (t₁ .value) y (k .counted) .each r c) w));
         };
       }
 
-pub leaf-tallied : {g : Rules} {n : ℕ} {o h : Index} {v : List ℕ} {t : Tally} → Leaf g n o h v t → Tallied g o h v t
-leaf-tallied l = record { readied = l .readied; conditions = l .conditions; heads = l .heads; counted = l .counted }
+pub leaf-equipped : {g : Rules} {n : ℕ} {o h : Index} {v : List ℕ} {t : Counters} → Leaf g n o h v t → Equipped g o h v t
+leaf-equipped l = record { readied = l .readied; conditions = l .conditions; heads = l .heads; counted = l .counted }
 
 pub zeros-small : (n e : ℕ) → getD (replicate n 0) e 0 < 2048
 zeros-small zero e = omega arith
 zeros-small (suc n) zero = omega arith
 zeros-small (suc n) (suc e) = zeros-small n e
 
-module _ {g : Rules} {o h : Index} {v : List ℕ} {t : Tally} (x : Tallied g o h v t) where
-  pub tallied-wide : length (o .rules) ≡ 16385
-  tallied-wide = x .conditions .wide
+abbrev both : Index → Index → Occurrences
+both o h = record { conditions = o; heads = h }
 
-  pub tallied-heads-wide : length (h .rules) ≡ 16385
-  tallied-heads-wide = x .heads .wide
+pub none-listed : {o h : Index} → o ≡ noIndex → h ≡ noIndex → both o h ≡ noOccurrences
+none-listed e d = ap₂ both e d

@@ -1,22 +1,18 @@
 // The machine's moves with all tables of the lists and the numbers lent, for callers that keep one fact of them.
-use crate::build;
-use crate::fill;
+use counting::counters::Marks;
 use counting::step;
-use counting::step::Outcome;
-use counting::tally::Marks;
+use counting::step::AfterStep;
 use counting::trail;
 use counting::trail::Moved;
 ghost use mathlib.Core.Path.{_≡_};
 ghost use Prim.Native.Nat.{ℕ, _≤_, _<_};
-ghost use lib.ListN.{length, getD};
 ghost use Rattle.asp.specs.Tables.{Formed};
 ghost use Rattle.search.specs.Places.{places, Good, backOf};
 ghost use Rattle.search.specs.Scan.{rules};
 ghost use Rattle.search.specs.Soft.{assumedEntries, FormedSoft};
 ghost use Rattle.search.specs.Step.{stepped, stepOf};
-ghost use Rattle.counting.specs.Tally.{index, tally};
-ghost use Rattle.indexing.specs.Sorting.{Readied};
-ghost use Rattle.indexing.specs.Leaf.{Tallied};
+ghost use Rattle.counting.specs.Counters.{index, counters};
+ghost use Rattle.indexing.specs.Leaf.{Equipped};
 
 // One step.
 pub fn step<'a>(
@@ -37,12 +33,12 @@ pub fn step<'a>(
     key: &mut [u16; 2048],
     len: usize,
     m: Marks,
-) -> Outcome
+) -> AfterStep
     requires { ⌜ Formed n (now pool) (now rows) rulecount ⌝ }
     requires { ⌜ FormedSoft n (assumedEntries (now wished) (now blamed) count) ⌝ }
     requires { ⌜ Good (places (now lits) (now signs) (now value) len) ⌝ }
-    requires { ⌜ Tallied (rules (now pool) (now rows) rulecount) (index (now starts) (now lists)) (index (now headstarts) (now headlists)) (now value) (tally (now key) m) ⌝ }
-    ensures { λ r. ⌜ (stepped (r .tested) (places (now (lits .exit)) (now (signs .exit)) (now (value .exit)) (r .len)) ≡ stepOf (rules (now (pool .entry)) (now (rows .entry)) rulecount) n (assumedEntries (now (wished .entry)) (now (blamed .entry)) count) (places (now (lits .entry)) (now (signs .entry)) (now (value .entry)) len)) × Tallied (rules (now (pool .entry)) (now (rows .entry)) rulecount) (index (now (starts .entry)) (now (lists .entry))) (index (now (headstarts .entry)) (now (headlists .entry))) (now (value .exit)) (tally (now (key .exit)) (r .marks)) ⌝ }
+    requires { ⌜ Equipped (rules (now pool) (now rows) rulecount) (index (now starts) (now lists)) (index (now headstarts) (now headlists)) (now value) (counters (now key) m) ⌝ }
+    ensures { λ r. ⌜ (stepped (r .tested) (places (now (lits .exit)) (now (signs .exit)) (now (value .exit)) (r .len)) ≡ stepOf (rules (now (pool .entry)) (now (rows .entry)) rulecount) n (assumedEntries (now (wished .entry)) (now (blamed .entry)) count) (places (now (lits .entry)) (now (signs .entry)) (now (value .entry)) len)) × Equipped (rules (now (pool .entry)) (now (rows .entry)) rulecount) (index (now (starts .entry)) (now (lists .entry))) (index (now (headstarts .entry)) (now (headlists .entry))) (now (value .exit)) (counters (now (key .exit)) (r .marks)) ⌝ }
 {
     step::step(
         pool,
@@ -80,31 +76,8 @@ pub fn back<'a>(
     m: Marks,
 ) -> Moved
     requires { ⌜ Good (places (now lits) (now signs) (now value) len) ⌝ }
-    requires { ⌜ Tallied (rules (now pool) (now rows) rulecount) (index (now starts) (now lists)) (index (now headstarts) (now headlists)) (now value) (tally (now key) m) ⌝ }
-    ensures { λ r. ⌜ (places (now (lits .exit)) (now (signs .exit)) (now (value .exit)) (r .len) ≡ backOf (places (now (lits .entry)) (now (signs .entry)) (now (value .entry)) len)) × Tallied (rules (now (pool .entry)) (now (rows .entry)) rulecount) (index (now (starts .entry)) (now (lists .entry))) (index (now (headstarts .entry)) (now (headlists .entry))) (now (value .exit)) (tally (now (key .exit)) (r .marks)) ⌝ }
+    requires { ⌜ Equipped (rules (now pool) (now rows) rulecount) (index (now starts) (now lists)) (index (now headstarts) (now headlists)) (now value) (counters (now key) m) ⌝ }
+    ensures { λ r. ⌜ (places (now (lits .exit)) (now (signs .exit)) (now (value .exit)) (r .len) ≡ backOf (places (now (lits .entry)) (now (signs .entry)) (now (value .entry)) len)) × Equipped (rules (now (pool .entry)) (now (rows .entry)) rulecount) (index (now (starts .entry)) (now (lists .entry))) (index (now (headstarts .entry)) (now (headlists .entry))) (now (value .exit)) (counters (now (key .exit)) (r .marks)) ⌝ }
 {
     trail::back(starts, lists, lits, signs, value, key, len, m)
-}
-
-// The lists of a program and the numbers for the values of a trail.
-pub fn prepare<'a>(
-    pool: &'a [i32],
-    rows: &'a [u16],
-    rulecount: usize,
-    value: &'a [u8; 1025],
-    starts: &mut [u16; 2051],
-    lists: &mut [u16; 16385],
-    headstarts: &mut [u16; 2051],
-    headlists: &mut [u16; 16385],
-    key: &mut [u16; 2048],
-) -> Marks
-    requires { ⌜ Readied (rules (now pool) (now rows) rulecount) ⌝ }
-    requires { ⌜ (length (now starts) ≡ 2051) × (length (now lists) ≡ 16385) × ((e : ℕ) → getD (now lists) e 0 < 2048) ⌝ }
-    requires { ⌜ (length (now headstarts) ≡ 2051) × (length (now headlists) ≡ 16385) × ((e : ℕ) → getD (now headlists) e 0 < 2048) ⌝ }
-    requires { ⌜ (length (now key) ≡ 2048) × ((a : ℕ) → getD (now value) a 0 ≤ 2) ⌝ }
-    ensures { λ m. ⌜ Tallied (rules (now (pool .entry)) (now (rows .entry)) rulecount) (index (now (starts .exit)) (now (lists .exit))) (index (now (headstarts .exit)) (now (headlists .exit))) (now (value .entry)) (tally (now (key .exit)) m) ⌝ }
-{
-    build::build(pool, rows, rulecount, false, starts, lists);
-    build::build(pool, rows, rulecount, true, headstarts, headlists);
-    fill::fill(pool, rows, rulecount, starts, lists, value, key)
 }

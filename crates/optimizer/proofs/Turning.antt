@@ -12,9 +12,10 @@ use lib.Dec.{T, eqb}
 use lib.IntN.{ℤ, pos}
 use lib.ListN.{length, getD, set, drop, replicate, length-set, length-drop, length-replicate, getD-replicate}
 use lib.Seq.{drop-cons, drop-set-lt, getD-set-same, getD-set-other, drop-nil}
-use Rattle.indexing.specs.Leaf.{Tallied}
+use Rattle.indexing.specs.Leaf.{Equipped}
 use Rattle.search.specs.Scan.{Rules}
-use Rattle.counting.specs.Tally.{Index, Tally}
+use Rattle.counting.specs.declared.counters.Index.{Index}
+use Rattle.counting.specs.Counters.{Counters}
 use borrow.Author.Tests.{eq-eqb, ne-eqb, eqb-true, eqb-false}
 use Rattle.asp.specs.Sets.{setOf, pick}
 use Rattle.asp.specs.Program.{All}
@@ -377,9 +378,9 @@ module _ {S : Source} {q : QueryTables} {budget : ℕ} {t₀ : Places} {b₀ : B
       rw (e, z) at (k .rest)
 
 -- the loop's state with the numbers beside it
-pub record TrackedOn (g : Rules) (o h : Index) (v : List ℕ) (y : Tally) (On : Type 0) : Type 0 where
+pub record TrackedOn (g : Rules) (o h : Index) (v : List ℕ) (y : Counters) (On : Type 0) : Type 0 where
   pub on : On
-  pub tallied : Tallied g o h v y
+  pub tallied : Equipped g o h v y
 
-pub tracked : {g : Rules} {o h : Index} {v : List ℕ} {y : Tally} {On : Type 0} → On → Tallied g o h v y → TrackedOn g o h v y On
+pub tracked : {g : Rules} {o h : Index} {v : List ℕ} {y : Counters} {On : Type 0} → On → Equipped g o h v y → TrackedOn g o h v y On
 tracked a b = record { on = a; tallied = b }

@@ -1,7 +1,7 @@
 // A full trail: whether its set is one that the query seeks.
 use crate::state::Judgement;
 use cores::judge::Judged;
-use counting::tally::Marks;
+use counting::counters::Marks;
 use indexing::leaf;
 ghost use mathlib.Core.Path.{_≡_};
 ghost use mathlib.Core.Bool.{_&&_};
@@ -17,7 +17,7 @@ ghost use Rattle.asp.specs.Cost.{cost, level};
 ghost use Rattle.asp.specs.Tables.{rulesOf, entriesOf, Formed};
 ghost use Rattle.asp.specs.Paying.{EntriesFormed};
 ghost use Rattle.search.specs.Scan.{rules};
-ghost use Rattle.counting.specs.Tally.{index, tally};
+ghost use Rattle.counting.specs.Counters.{index, counters};
 ghost use Rattle.indexing.specs.Leaf.{Leaf};
 ghost use Rattle.cores.specs.Judging as judged;
 ghost use Rattle.optimizer.specs.Source.{levelTables, source};
@@ -105,7 +105,7 @@ fn in_class<'a>(
     lowers: &'a [u64; 8],
 ) -> bool
     requires { ⌜ Formed n (now pool) (now rows) rulecount × (level ≤ length (now levels)) × (level ≤ 8) × EntriesFormed (now priorities) (now literals) (now weights) entrycount × (length (now value) ≡ 1025) × (length (now lowers) ≡ 8) ⌝ }
-    requires { ⌜ Leaf (rules (now pool) (now rows) rulecount) n (index (now starts) (now lists)) (index (now headstarts) (now headlists)) (now value) (tally (now key) m) ⌝ }
+    requires { ⌜ Leaf (rules (now pool) (now rows) rulecount) n (index (now starts) (now lists)) (index (now headstarts) (now headlists)) (now value) (counters (now key) m) ⌝ }
     ensures { λ r. ⌜ (r ≡ inClass (source n (now (pool .entry)) (now (rows .entry)) rulecount (levelTables (now (levels .entry)) (now (priorities .entry)) (now (literals .entry)) (now (weights .entry)) entrycount)) level (now (lowers .entry)) (setOf (now (value .entry)))) ⌝ }
 {
     if leaf::is_stable(
@@ -166,7 +166,7 @@ pub fn judge_full<'a>(
     requires { ⌜ Formed n (now pool) (now rows) rulecount × (level ≤ length (now levels)) × (level ≤ 8) × EntriesFormed (now priorities) (now literals) (now weights) entrycount × (length (now value) ≡ 1025) × (length (now lowers) ≡ 8) ⌝ }
     requires { ⌜ judged.FormedJudging (judged.judging (now softs) (now cores) (now indices) (now ends) (now members)) ⌝ }
     requires { ⌜ All (λ m. m < length (now softs)) (now assumed) × All (λ m. m < length (now softs)) (now blamed) ⌝ }
-    requires { ⌜ Leaf (rules (now pool) (now rows) rulecount) n (index (now starts) (now lists)) (index (now headstarts) (now headlists)) (now value) (tally (now key) m) ⌝ }
+    requires { ⌜ Leaf (rules (now pool) (now rows) rulecount) n (index (now starts) (now lists)) (index (now headstarts) (now headlists)) (now value) (counters (now key) m) ⌝ }
     ensures { λ r. ⌜ ((ws : List ℤ) (ps : List ℕ) → r ≡ judgeFull (source n (now (pool .entry)) (now (rows .entry)) rulecount (levelTables (now (levels .entry)) (now (priorities .entry)) (now (literals .entry)) (now (weights .entry)) entrycount)) (queryTables level (now (lowers .entry)) ws ps (now (assumed .entry)) (judged.judging (now (softs .entry)) (now (cores .entry)) (now (indices .entry)) (now (ends .entry)) (now (members .entry)))) (now (blamed .entry)) (now (value .entry))) ⌝ }
 {
     if in_class(

@@ -5,12 +5,15 @@ use crate::state::Work;
 use crate::turn;
 use cores::query;
 use cores::recording;
-use indexing::machine;
+use indexing::fill;
 use search::trail::Places;
 ghost use mathlib.Core.Path.{_≡_};
 ghost use Prim.Native.Nat.{ℕ, _≤_, _<_};
 ghost use lib.ListN.{length};
 ghost use Rattle.search.specs.Places.{SoundTrail};
+ghost use Rattle.search.specs.Scan.{rules};
+ghost use Rattle.counting.specs.Counters.{index};
+ghost use Rattle.indexing.specs.Leaf.{Indexes};
 ghost use Rattle.cores.specs.Tables.{SoundTables};
 ghost use Rattle.cores.specs.Judging.{judging};
 ghost use Rattle.optimizer.specs.Source.{levelTables, source};
@@ -47,6 +50,10 @@ fn run_lent<'a>(
     indices: &'a [u16],
     ends: &'a [u16],
     members: &'a [u16],
+    starts: &'a [u16],
+    lists: &'a [u16],
+    headstarts: &'a [u16],
+    headlists: &'a [u16],
     trail: Places,
     blame: Blame,
     budget: u32,
@@ -54,6 +61,7 @@ fn run_lent<'a>(
     requires { ⌜ ReadyQuery (source n (now pool) (now rows) rulecount (levelTables (now levels) (now priorities) (now literals) (now weights) entrycount)) (queryTables level (now lowers) (now wished) (now spots) (now assumed) (judging (now softs) (now cores) (now indices) (now ends) (now members))) ⌝ }
     requires { ⌜ GoodBlame (queryTables level (now lowers) (now wished) (now spots) (now assumed) (judging (now softs) (now cores) (now indices) (now ends) (now members))) blame ⌝ }
     requires { ⌜ SoundTrail n trail ⌝ }
+    requires { ⌜ Indexes (rules (now pool) (now rows) rulecount) (index (now starts) (now lists)) (index (now headstarts) (now headlists)) ⌝ }
     ensures { λ r. ⌜ turns (turned (r .turn) (r .trail) (r .blame)) (r .made) ≡ turnsOf (source n (now (pool .entry)) (now (rows .entry)) rulecount (levelTables (now (levels .entry)) (now (priorities .entry)) (now (literals .entry)) (now (weights .entry)) entrycount)) (queryTables level (now (lowers .entry)) (now (wished .entry)) (now (spots .entry)) (now (assumed .entry)) (judging (now (softs .entry)) (now (cores .entry)) (now (indices .entry)) (now (ends .entry)) (now (members .entry)))) budget trail blame ⌝ }
 {
     let mut lits = trail.lits;
@@ -61,22 +69,8 @@ fn run_lent<'a>(
     let mut value = trail.value;
     let mut flags = blame.flags;
     let mut core = blame.core;
-    let mut starts = [0u16; 2051];
-    let mut lists = [0u16; 16385];
-    let mut headstarts = [0u16; 2051];
-    let mut headlists = [0u16; 16385];
     let mut key = [0u16; 2048];
-    let m = machine::prepare(
-        pool,
-        rows,
-        rulecount,
-        &value,
-        &mut starts,
-        &mut lists,
-        &mut headstarts,
-        &mut headlists,
-        &mut key,
-    );
+    let m = fill::fill(pool, rows, rulecount, starts, lists, &value, &mut key);
     let r = turn::turns(
         n,
         pool,
@@ -97,10 +91,10 @@ fn run_lent<'a>(
         indices,
         ends,
         members,
-        &starts,
-        &lists,
-        &headstarts,
-        &headlists,
+        starts,
+        lists,
+        headstarts,
+        headlists,
         &mut lits,
         &mut marks,
         &mut value,
@@ -152,6 +146,10 @@ fn run_columns<'a>(
     rests: &'a [u32],
     ends: &'a [u16],
     members: &'a [u16],
+    starts: &'a [u16],
+    lists: &'a [u16],
+    headstarts: &'a [u16],
+    headlists: &'a [u16],
     trail: Places,
     blame: Blame,
     budget: u32,
@@ -160,6 +158,7 @@ fn run_columns<'a>(
     requires { ⌜ GoodBlame (queryBy level (now lowers) (judging (now softs) (now cores) (now indices) (now ends) (now members)) (now rests) stratum) blame ⌝ }
     requires { ⌜ SoundTrail n trail ⌝ }
     requires { ⌜ (length (now rests) ≤ 4096) × (length (now cores) ≡ length (now softs)) ⌝ }
+    requires { ⌜ Indexes (rules (now pool) (now rows) rulecount) (index (now starts) (now lists)) (index (now headstarts) (now headlists)) ⌝ }
     ensures { λ r. ⌜ turns (turned (r .turn) (r .trail) (r .blame)) (r .made) ≡ turnsOf (source n (now (pool .entry)) (now (rows .entry)) rulecount (levelTables (now (levels .entry)) (now (priorities .entry)) (now (literals .entry)) (now (weights .entry)) entrycount)) (queryBy level (now (lowers .entry)) (judging (now (softs .entry)) (now (cores .entry)) (now (indices .entry)) (now (ends .entry)) (now (members .entry))) (now (rests .entry)) stratum) budget trail blame ⌝ }
 {
     let mut assumed = [0u16; 4096];
@@ -187,6 +186,10 @@ fn run_columns<'a>(
         indices,
         ends,
         members,
+        starts,
+        lists,
+        headstarts,
+        headlists,
         trail,
         blame,
         budget,
@@ -204,6 +207,10 @@ pub fn run_query<'a>(
     literals: &'a [i32],
     weights: &'a [u32],
     entrycount: usize,
+    starts: &'a [u16],
+    lists: &'a [u16],
+    headstarts: &'a [u16],
+    headlists: &'a [u16],
     w: Work,
     trail: Places,
     blame: Blame,
@@ -213,6 +220,7 @@ pub fn run_query<'a>(
     requires { ⌜ GoodBlame (workQuery w) blame ⌝ }
     requires { ⌜ SoundTrail n trail ⌝ }
     requires { ⌜ SoundTables (w .tables) ⌝ }
+    requires { ⌜ Indexes (rules (now pool) (now rows) rulecount) (index (now starts) (now lists)) (index (now headstarts) (now headlists)) ⌝ }
     ensures { λ r. ⌜ turns (turned (r .turn) (r .trail) (r .blame)) (r .made) ≡ turnsOf (source n (now (pool .entry)) (now (rows .entry)) rulecount (levelTables (now (levels .entry)) (now (priorities .entry)) (now (literals .entry)) (now (weights .entry)) entrycount)) (workQuery w) budget trail blame ⌝ }
 {
     let mut softs = [0i32; 4096];
@@ -247,6 +255,10 @@ pub fn run_query<'a>(
         &rests[..count],
         &ends[..k + 1],
         &members[..held],
+        starts,
+        lists,
+        headstarts,
+        headlists,
         trail,
         blame,
         budget,

@@ -15,6 +15,9 @@ ghost use Rattle.cores.specs.Tables.{FormedTables};
 ghost use Rattle.optimizer.specs.Source.{levelTables, source, FormedLevels};
 ghost use Rattle.optimizer.specs.Turn.{turned, blamedOf};
 ghost use Rattle.search.specs.Places.{freshPlaces};
+ghost use Rattle.search.specs.Scan.{rules};
+ghost use Rattle.counting.specs.Counters.{index};
+ghost use Rattle.indexing.specs.Leaf.{Indexes};
 ghost use Rattle.optimizer.specs.State.{freshBlame, isRunning, freshSearch};
 ghost use Rattle.optimizer.specs.Finish.{finishOf};
 ghost use Rattle.optimizer.specs.Advance.{endedQuery, afterTurns, advanceOf};
@@ -156,10 +159,15 @@ pub fn run_steps<'a>(
     literals: &'a [i32],
     weights: &'a [u32],
     entrycount: usize,
+    starts: &'a [u16],
+    lists: &'a [u16],
+    headstarts: &'a [u16],
+    headlists: &'a [u16],
     s: Search,
     budget: u32,
 ) -> Advanced
     requires { ⌜ ReadyRun (source n (now pool) (now rows) rulecount (levelTables (now levels) (now priorities) (now literals) (now weights) entrycount)) budget s ⌝ }
+    requires { ⌜ Indexes (rules (now pool) (now rows) rulecount) (index (now starts) (now lists)) (index (now headstarts) (now headlists)) ⌝ }
     ensures { λ r. ⌜ afterRun (r .search) (r .made) ≡ queryRun (source n (now (pool .entry)) (now (rows .entry)) rulecount (levelTables (now (levels .entry)) (now (priorities .entry)) (now (literals .entry)) (now (weights .entry)) entrycount)) budget s ⌝ }
 {
     let w = s.work;
@@ -175,6 +183,10 @@ pub fn run_steps<'a>(
         literals,
         weights,
         entrycount,
+        starts,
+        lists,
+        headstarts,
+        headlists,
         w,
         trail,
         blame,
@@ -223,10 +235,15 @@ pub fn run<'a>(
     literals: &'a [i32],
     weights: &'a [u32],
     entrycount: usize,
+    starts: &'a [u16],
+    lists: &'a [u16],
+    headstarts: &'a [u16],
+    headlists: &'a [u16],
     start: Search,
     budget: u32,
 ) -> Advanced
     requires { ⌜ Reached (source n (now pool) (now rows) rulecount (levelTables (now levels) (now priorities) (now literals) (now weights) entrycount)) start ⌝ }
+    requires { ⌜ Indexes (rules (now pool) (now rows) rulecount) (index (now starts) (now lists)) (index (now headstarts) (now headlists)) ⌝ }
     ensures { λ r. ⌜ afterRun (r .search) (r .made) ≡ runOf (source n (now (pool .entry)) (now (rows .entry)) rulecount (levelTables (now (levels .entry)) (now (priorities .entry)) (now (literals .entry)) (now (weights .entry)) entrycount)) budget start ⌝ }
 {
     let mut s = start;
@@ -249,6 +266,10 @@ pub fn run<'a>(
             literals,
             weights,
             entrycount,
+            starts,
+            lists,
+            headstarts,
+            headlists,
             s,
             budget - made,
         );
@@ -272,9 +293,14 @@ pub fn advance<'a>(
     literals: &'a [i32],
     weights: &'a [u32],
     entrycount: usize,
+    starts: &'a [u16],
+    lists: &'a [u16],
+    headstarts: &'a [u16],
+    headlists: &'a [u16],
     s: Search,
 ) -> Search
     requires { ⌜ Reached (source n (now pool) (now rows) rulecount (levelTables (now levels) (now priorities) (now literals) (now weights) entrycount)) s ⌝ }
+    requires { ⌜ Indexes (rules (now pool) (now rows) rulecount) (index (now starts) (now lists)) (index (now headstarts) (now headlists)) ⌝ }
     ensures { λ r. ⌜ r ≡ advanceOf (source n (now (pool .entry)) (now (rows .entry)) rulecount (levelTables (now (levels .entry)) (now (priorities .entry)) (now (literals .entry)) (now (weights .entry)) entrycount)) s ⌝ }
 {
     let phase = s.phase;
@@ -291,6 +317,10 @@ pub fn advance<'a>(
         literals,
         weights,
         entrycount,
+        starts,
+        lists,
+        headstarts,
+        headlists,
         s,
         1,
     );

@@ -3,7 +3,7 @@ use crate::blame;
 use crate::judge;
 use crate::state::Judgement;
 use crate::state::Turn;
-use counting::tally::Marks;
+use counting::counters::Marks;
 use indexing::machine;
 use search::step::Tested;
 ghost use mathlib.Core.Path.{_≡_};
@@ -11,8 +11,8 @@ ghost use Prim.Native.Nat.{ℕ, _≤_, _<_};
 ghost use lib.ListN.{length};
 ghost use Rattle.search.specs.Places.{places, SoundTrail};
 ghost use Rattle.search.specs.Scan.{rules};
-ghost use Rattle.counting.specs.Tally.{index, tally};
-ghost use Rattle.indexing.specs.Leaf.{Leaf, Tallied};
+ghost use Rattle.counting.specs.Counters.{index, counters};
+ghost use Rattle.indexing.specs.Leaf.{Leaf, Equipped};
 ghost use Rattle.cores.specs.Judging.{judging};
 ghost use Rattle.optimizer.specs.Source.{levelTables, source};
 ghost use Rattle.optimizer.specs.Turn.{queryTables, blameTables, turned, turnOf, turns, turnsOf, judgedTurn, judgeFull, blamedOf, isGoing};
@@ -87,8 +87,8 @@ fn judged<'a>(
     requires { ⌜ ReadyQuery (source n (now pool) (now rows) rulecount (levelTables (now levels) (now priorities) (now literals) (now weights) entrycount)) (queryTables level (now lowers) (now wished) (now spots) (now assumed) (judging (now softs) (now cores) (now indices) (now ends) (now members))) ⌝ }
     requires { ⌜ GoodBlame (queryTables level (now lowers) (now wished) (now spots) (now assumed) (judging (now softs) (now cores) (now indices) (now ends) (now members))) (blameTables (now flags) (now core) from) ⌝ }
     requires { ⌜ SoundTrail n (places (now lits) (now marks) (now value) len) ⌝ }
-    requires { ⌜ Leaf (rules (now pool) (now rows) rulecount) n (index (now starts) (now lists)) (index (now headstarts) (now headlists)) (now value) (tally (now key) m) ⌝ }
-    ensures { λ r. ⌜ (turned (r .turning .turn) (places (now (lits .exit)) (now (marks .exit)) (now (value .exit)) (r .turning .len)) (blameTables (now (flags .exit)) (now (core .exit)) (r .turning .from)) ≡ judgedTurn (queryTables level (now (lowers .entry)) (now (wished .entry)) (now (spots .entry)) (now (assumed .entry)) (judging (now (softs .entry)) (now (cores .entry)) (now (indices .entry)) (now (ends .entry)) (now (members .entry)))) (places (now (lits .entry)) (now (marks .entry)) (now (value .entry)) len) (blameTables (now (flags .entry)) (now (core .entry)) from) (judgeFull (source n (now (pool .entry)) (now (rows .entry)) rulecount (levelTables (now (levels .entry)) (now (priorities .entry)) (now (literals .entry)) (now (weights .entry)) entrycount)) (queryTables level (now (lowers .entry)) (now (wished .entry)) (now (spots .entry)) (now (assumed .entry)) (judging (now (softs .entry)) (now (cores .entry)) (now (indices .entry)) (now (ends .entry)) (now (members .entry)))) (blamedOf (blameTables (now (flags .entry)) (now (core .entry)) from)) (now (value .entry)))) × Tallied (rules (now (pool .entry)) (now (rows .entry)) rulecount) (index (now (starts .entry)) (now (lists .entry))) (index (now (headstarts .entry)) (now (headlists .entry))) (now (value .exit)) (tally (now (key .exit)) (r .marks)) ⌝ }
+    requires { ⌜ Leaf (rules (now pool) (now rows) rulecount) n (index (now starts) (now lists)) (index (now headstarts) (now headlists)) (now value) (counters (now key) m) ⌝ }
+    ensures { λ r. ⌜ (turned (r .turning .turn) (places (now (lits .exit)) (now (marks .exit)) (now (value .exit)) (r .turning .len)) (blameTables (now (flags .exit)) (now (core .exit)) (r .turning .from)) ≡ judgedTurn (queryTables level (now (lowers .entry)) (now (wished .entry)) (now (spots .entry)) (now (assumed .entry)) (judging (now (softs .entry)) (now (cores .entry)) (now (indices .entry)) (now (ends .entry)) (now (members .entry)))) (places (now (lits .entry)) (now (marks .entry)) (now (value .entry)) len) (blameTables (now (flags .entry)) (now (core .entry)) from) (judgeFull (source n (now (pool .entry)) (now (rows .entry)) rulecount (levelTables (now (levels .entry)) (now (priorities .entry)) (now (literals .entry)) (now (weights .entry)) entrycount)) (queryTables level (now (lowers .entry)) (now (wished .entry)) (now (spots .entry)) (now (assumed .entry)) (judging (now (softs .entry)) (now (cores .entry)) (now (indices .entry)) (now (ends .entry)) (now (members .entry)))) (blamedOf (blameTables (now (flags .entry)) (now (core .entry)) from)) (now (value .entry)))) × Equipped (rules (now (pool .entry)) (now (rows .entry)) rulecount) (index (now (starts .entry)) (now (lists .entry))) (index (now (headstarts .entry)) (now (headlists .entry))) (now (value .exit)) (counters (now (key .exit)) (r .marks)) ⌝ }
 {
     let j = judge::judge_full(
         n,
@@ -214,8 +214,8 @@ pub fn turn<'a>(
     requires { ⌜ ReadyQuery (source n (now pool) (now rows) rulecount (levelTables (now levels) (now priorities) (now literals) (now weights) entrycount)) (queryTables level (now lowers) (now wished) (now spots) (now assumed) (judging (now softs) (now cores) (now indices) (now ends) (now members))) ⌝ }
     requires { ⌜ GoodBlame (queryTables level (now lowers) (now wished) (now spots) (now assumed) (judging (now softs) (now cores) (now indices) (now ends) (now members))) (blameTables (now flags) (now core) from) ⌝ }
     requires { ⌜ SoundTrail n (places (now lits) (now marks) (now value) len) ⌝ }
-    requires { ⌜ Tallied (rules (now pool) (now rows) rulecount) (index (now starts) (now lists)) (index (now headstarts) (now headlists)) (now value) (tally (now key) m) ⌝ }
-    ensures { λ r. ⌜ (turned (r .turning .turn) (places (now (lits .exit)) (now (marks .exit)) (now (value .exit)) (r .turning .len)) (blameTables (now (flags .exit)) (now (core .exit)) (r .turning .from)) ≡ turnOf (source n (now (pool .entry)) (now (rows .entry)) rulecount (levelTables (now (levels .entry)) (now (priorities .entry)) (now (literals .entry)) (now (weights .entry)) entrycount)) (queryTables level (now (lowers .entry)) (now (wished .entry)) (now (spots .entry)) (now (assumed .entry)) (judging (now (softs .entry)) (now (cores .entry)) (now (indices .entry)) (now (ends .entry)) (now (members .entry)))) (places (now (lits .entry)) (now (marks .entry)) (now (value .entry)) len) (blameTables (now (flags .entry)) (now (core .entry)) from)) × Tallied (rules (now (pool .entry)) (now (rows .entry)) rulecount) (index (now (starts .entry)) (now (lists .entry))) (index (now (headstarts .entry)) (now (headlists .entry))) (now (value .exit)) (tally (now (key .exit)) (r .marks)) ⌝ }
+    requires { ⌜ Equipped (rules (now pool) (now rows) rulecount) (index (now starts) (now lists)) (index (now headstarts) (now headlists)) (now value) (counters (now key) m) ⌝ }
+    ensures { λ r. ⌜ (turned (r .turning .turn) (places (now (lits .exit)) (now (marks .exit)) (now (value .exit)) (r .turning .len)) (blameTables (now (flags .exit)) (now (core .exit)) (r .turning .from)) ≡ turnOf (source n (now (pool .entry)) (now (rows .entry)) rulecount (levelTables (now (levels .entry)) (now (priorities .entry)) (now (literals .entry)) (now (weights .entry)) entrycount)) (queryTables level (now (lowers .entry)) (now (wished .entry)) (now (spots .entry)) (now (assumed .entry)) (judging (now (softs .entry)) (now (cores .entry)) (now (indices .entry)) (now (ends .entry)) (now (members .entry)))) (places (now (lits .entry)) (now (marks .entry)) (now (value .entry)) len) (blameTables (now (flags .entry)) (now (core .entry)) from)) × Equipped (rules (now (pool .entry)) (now (rows .entry)) rulecount) (index (now (starts .entry)) (now (lists .entry))) (index (now (headstarts .entry)) (now (headlists .entry))) (now (value .exit)) (counters (now (key .exit)) (r .marks)) ⌝ }
 {
     let o = machine::step(
         pool,
@@ -345,7 +345,7 @@ pub fn turns<'a>(
     requires { ⌜ ReadyQuery (source n (now pool) (now rows) rulecount (levelTables (now levels) (now priorities) (now literals) (now weights) entrycount)) (queryTables level (now lowers) (now wished) (now spots) (now assumed) (judging (now softs) (now cores) (now indices) (now ends) (now members))) ⌝ }
     requires { ⌜ GoodBlame (queryTables level (now lowers) (now wished) (now spots) (now assumed) (judging (now softs) (now cores) (now indices) (now ends) (now members))) (blameTables (now flags) (now core) first) ⌝ }
     requires { ⌜ SoundTrail n (places (now lits) (now marks) (now value) start) ⌝ }
-    requires { ⌜ Tallied (rules (now pool) (now rows) rulecount) (index (now starts) (now lists)) (index (now headstarts) (now headlists)) (now value) (tally (now key) m) ⌝ }
+    requires { ⌜ Equipped (rules (now pool) (now rows) rulecount) (index (now starts) (now lists)) (index (now headstarts) (now headlists)) (now value) (counters (now key) m) ⌝ }
     ensures { λ r. ⌜ turns (turned (r .turning .turn) (places (now (lits .exit)) (now (marks .exit)) (now (value .exit)) (r .turning .len)) (blameTables (now (flags .exit)) (now (core .exit)) (r .turning .from))) (r .made) ≡ turnsOf (source n (now (pool .entry)) (now (rows .entry)) rulecount (levelTables (now (levels .entry)) (now (priorities .entry)) (now (literals .entry)) (now (weights .entry)) entrycount)) (queryTables level (now (lowers .entry)) (now (wished .entry)) (now (spots .entry)) (now (assumed .entry)) (judging (now (softs .entry)) (now (cores .entry)) (now (indices .entry)) (now (ends .entry)) (now (members .entry)))) budget (places (now (lits .entry)) (now (marks .entry)) (now (value .entry)) start) (blameTables (now (flags .entry)) (now (core .entry)) first) ⌝ }
 {
     let mut len = start;

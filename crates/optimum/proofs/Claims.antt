@@ -9,7 +9,7 @@ use native.Mathlib.Nat.{eq-or-lt-of-le}
 use native.Mathlib.Omega.{arith}
 use lib.Dec.{T, eqb, ltb, lt→ltb}
 use lib.ListN.{length}
-use Rattle.asp.specs.Sets.{Set, pick}
+use Rattle.asp.specs.Sets.{Set, pick, ind}
 use Rattle.asp.specs.Program.{Entry, All}
 use Rattle.asp.specs.Cost.{cost, weight, total, NoDearer}
 use Rattle.asp.proofs.Order.{ltb-linear, no-dearer-refl}
@@ -17,7 +17,7 @@ use Rattle.search.specs.Trail.{Trail, flip}
 use Rattle.search.specs.Machine.{Verdict}
 use Rattle.search.specs.Machine as machine
 use Rattle.search.proofs.Spent.{spent, spent-le}
-use Rattle.cores.specs.Sums.{ind, wsum}
+use Rattle.cores.specs.Sums.{wsum}
 use Rattle.cores.specs.Soft.{violated}
 use Rattle.cores.specs.Level.{Level, room}
 use Rattle.cores.specs.Identity.{Core, problem, violatedWeight}

@@ -14,6 +14,7 @@ use Rattle.optimizer.specs.declared.state.Search.{Search}
 use Rattle.optimizer.specs.Source.{FormedSource}
 use Rattle.optimizer.specs.Facts.{hasModel, bestIn}
 use Rattle.optimizer.proofs.Alike.{SameSource, advance-same, advances-same, made-same}
+use Rattle.indexing.specs.declared.build.Occurrences.{Occurrences}
 use Rattle.planner.specs.declared.service.Service.{Service}
 use Rattle.planner.specs.Held.{service, sourceOf, statusOf}
 use Rattle.planner.specs.Calls.{Says, gives, Loads, Outcome, outcome, Fills, fills, Filling, countOf, seen, given, filled, unfilled, filledWith, modelBytes, FreshWith, AfterLoad, advanceCall, runCall, levelSeen, stratumSeen, lookCall, writeCall, modelCall, nameCall, shownSays, shownCall}
@@ -26,28 +27,28 @@ use Rattle.planner.proofs.Together.{name-after}
 
 -- ---- alike, by what is loaded
 
-empty-alike : (p p′ : Stored) (q q′ : Search) → Alike (service false p q) (service false p′ q′)
-empty-alike p p′ q q′ = record { loaded = refl; held = λ e. absurd (true≢false (sym e)) }
+empty-alike : (p p′ : Stored) (ix ix′ : Occurrences) (q q′ : Search) → Alike (service false p ix q) (service false p′ ix′ q′)
+empty-alike p p′ ix ix′ q q′ = record { loaded = refl; held = λ e. absurd (true≢false (sym e)) }
 
 alike-same : {s u s′ u′ : Service} → s′ ≡ s → u′ ≡ u → Alike s u → Alike s′ u′
 alike-same {s} {u} {s′} {u′} e d h = subst (λ (x : Service). Alike x u′) (sym e) (subst (Alike s) (sym d) h)
 
 -- what holds of both with one optimization, and where nothing is loaded, holds of all that are alike
-by-loaded : (P : Service → Service → Type 0) → ((p p′ : Stored) (q : Search) → SameHeld (service true p q) (service true p′ q) → P (service true p q) (service true p′ q))
-    → ((p p′ : Stored) (q q′ : Search) → P (service false p q) (service false p′ q′)) → (s u : Service) → Alike s u → P s u
+by-loaded : (P : Service → Service → Type 0) → ((p p′ : Stored) (ix ix′ : Occurrences) (q : Search) → SameHeld (service true p ix q) (service true p′ ix′ q) → P (service true p ix q) (service true p′ ix′ q))
+    → ((p p′ : Stored) (ix ix′ : Occurrences) (q q′ : Search) → P (service false p ix q) (service false p′ ix′ q′)) → (s u : Service) → Alike s u → P s u
 by-loaded P f g s u h = go (s .loaded) refl
   where
     go : (b : Bool) → s .loaded ≡ b → P s u
     go true e =
-        let x : service true (s .stored) (s .search) ≡ s = ap (λ (l : Bool). service l (s .stored) (s .search)) (sym e) in
-        let y : service true (u .stored) (s .search) ≡ u = ap₂ (λ (l : Bool) (q : Search). service l (u .stored) q) (sym e ∙ h .loaded) (h .held e .search) in
-        let k : SameHeld (service true (s .stored) (s .search)) (service true (u .stored) (s .search)) =
+        let x : service true (s .stored) (s .lists) (s .search) ≡ s = ap (λ (l : Bool). service l (s .stored) (s .lists) (s .search)) (sym e) in
+        let y : service true (u .stored) (u .lists) (s .search) ≡ u = ap₂ (λ (l : Bool) (q : Search). service l (u .stored) (u .lists) q) (sym e ∙ h .loaded) (h .held e .search) in
+        let k : SameHeld (service true (s .stored) (s .lists) (s .search)) (service true (u .stored) (u .lists) (s .search)) =
         record { here = h .held e .here; there = h .held e .there; program = h .held e .program; text = h .held e .text; search = refl } in
-        subst (λ (z : Service). P z u) x (subst (P (service true (s .stored) (s .search))) y (f (s .stored) (u .stored) (s .search) k))
+        subst (λ (z : Service). P z u) x (subst (P (service true (s .stored) (s .lists) (s .search))) y (f (s .stored) (u .stored) (s .lists) (u .lists) (s .search) k))
     go false e =
-        let x : service false (s .stored) (s .search) ≡ s = ap (λ (l : Bool). service l (s .stored) (s .search)) (sym e) in
-        let y : service false (u .stored) (u .search) ≡ u = ap (λ (l : Bool). service l (u .stored) (u .search)) (sym e ∙ h .loaded) in
-        subst (λ (z : Service). P z u) x (subst (P (service false (s .stored) (s .search))) y (g (s .stored) (u .stored) (s .search) (u .search)))
+        let x : service false (s .stored) (s .lists) (s .search) ≡ s = ap (λ (l : Bool). service l (s .stored) (s .lists) (s .search)) (sym e) in
+        let y : service false (u .stored) (u .lists) (u .search) ≡ u = ap (λ (l : Bool). service l (u .stored) (u .lists) (u .search)) (sym e ∙ h .loaded) in
+        subst (λ (z : Service). P z u) x (subst (P (service false (s .stored) (s .lists) (s .search))) y (g (s .stored) (u .stored) (s .lists) (u .lists) (s .search) (u .search)))
 
 -- ---- calls on services in which a program is loaded
 
@@ -57,15 +58,15 @@ SameOutcome x y = (x .answer ≡ y .answer) × Alike (x .after) (y .after)
 abbrev SameFills : Fills → Fills → Type 0
 SameFills x y = (x .answer ≡ y .answer) × (x .bytes ≡ y .bytes) × Alike (x .after) (y .after)
 
-module _ (p p′ : Stored) (q : Search) (h : SameHeld (service true p q) (service true p′ q)) where
+module _ (p p′ : Stored) (ix ix′ : Occurrences) (q : Search) (h : SameHeld (service true p ix q) (service true p′ ix′ q)) where
   abbrev s : Service
-  s = service true p q
+  s = service true p ix q
 
   abbrev u : Service
-  u = service true p′ q
+  u = service true p′ ix′ q
 
   -- the optimization may move, as one
-  moved-alike : {x y : Search} → x ≡ y → Alike (service true p x) (service true p′ y)
+  moved-alike : {x y : Search} → x ≡ y → Alike (service true p ix x) (service true p′ ix′ y)
   moved-alike e = record { loaded = refl; held = λ l. record { here = h .here; there = h .there; program = h .program; text = h .text; search = e } }
 
   both : Alike s u
@@ -120,8 +121,8 @@ module _ (p p′ : Stored) (q : Search) (h : SameHeld (service true p q) (servic
   name-alike : (i : ℕ) (b : List ℕ) → SameFills (nameCall s i b) (nameCall u i b)
   name-alike i b =
       let z = go (nth (storedProgram p .symbols) i) in (
-        ap (λ (x : Fills). x .answer) (name-by p q i b) ∙ z .0 ∙ ap (λ (o : Option Symbol). nameBy u b o .answer) (symbol-same i) ∙ sym (ap (λ (x : Fills). x .answer) (name-by p′ q i b)),
-        ap (λ (x : Fills). x .bytes) (name-by p q i b) ∙ z .1 ∙ ap (λ (o : Option Symbol). nameBy u b o .bytes) (symbol-same i) ∙ sym (ap (λ (x : Fills). x .bytes) (name-by p′ q i b)),
+        ap (λ (x : Fills). x .answer) (name-by p ix q i b) ∙ z .0 ∙ ap (λ (o : Option Symbol). nameBy u b o .answer) (symbol-same i) ∙ sym (ap (λ (x : Fills). x .answer) (name-by p′ ix′ q i b)),
+        ap (λ (x : Fills). x .bytes) (name-by p ix q i b) ∙ z .1 ∙ ap (λ (o : Option Symbol). nameBy u b o .bytes) (symbol-same i) ∙ sym (ap (λ (x : Fills). x .bytes) (name-by p′ ix′ q i b)),
         alike-same (name-after s b i) (name-after u b i) both,
       )
     where
@@ -133,9 +134,9 @@ module _ (p p′ : Stored) (q : Search) (h : SameHeld (service true p q) (servic
   shown-alike i = (go (nth (storedProgram p .symbols) i) refl (hasModel (q .phase)) refl, both)
     where
       go : (o : Option Symbol) → nth (storedProgram p .symbols) i ≡ o → (m : Bool) → hasModel (q .phase) ≡ m → shownSays s i ≡ shownSays u i
-      go none e m k = shown-gone p q i e ∙ sym (shown-gone p′ q i (sym (symbol-same i) ∙ e))
-      go (some y) e true k = shown-by p q i y e k ∙ sym (shown-by p′ q i y (sym (symbol-same i) ∙ e) k)
-      go (some y) e false k = shown-without p q i y e k ∙ sym (shown-without p′ q i y (sym (symbol-same i) ∙ e) k)
+      go none e m k = shown-gone p ix q i e ∙ sym (shown-gone p′ ix′ q i (sym (symbol-same i) ∙ e))
+      go (some y) e true k = shown-by p ix q i y e k ∙ sym (shown-by p′ ix′ q i y (sym (symbol-same i) ∙ e) k)
+      go (some y) e false k = shown-without p ix q i y e k ∙ sym (shown-without p′ ix′ q i y (sym (symbol-same i) ∙ e) k)
 
 -- ---- a load of an accepted text, whatever was there
 
@@ -177,19 +178,19 @@ pub answers-alike : AnswersAlike
 answers-alike (load t) s u h a b s′ u′ d e = load-alike (textOf t) s u h a b s′ u′ d e
 answers-alike clear s u h a b s′ u′ d e = (refl, alike-same d e (record { loaded = refl; held = λ l. absurd (true≢false (sym l)) }))
 answers-alike advance s u h a b s′ u′ d e =
-    outcome-alike (by-loaded (λ x y. SameOutcome (advanceCall x) (advanceCall y)) advance-alike (λ p p′ q q′. (refl, empty-alike p p′ q q′)) s u h) d e
+    outcome-alike (by-loaded (λ x y. SameOutcome (advanceCall x) (advanceCall y)) advance-alike (λ p p′ ix ix′ q q′. (refl, empty-alike p p′ ix ix′ q q′)) s u h) d e
 answers-alike (run k) s u h a b s′ u′ d e =
-    outcome-alike (by-loaded (λ x y. SameOutcome (runCall x k) (runCall y k)) (λ p p′ q z. run-alike p p′ q z k) (λ p p′ q q′. (refl, empty-alike p p′ q q′)) s u h) d e
+    outcome-alike (by-loaded (λ x y. SameOutcome (runCall x k) (runCall y k)) (λ p p′ ix ix′ q z. run-alike p p′ ix ix′ q z k) (λ p p′ ix ix′ q q′. (refl, empty-alike p p′ ix ix′ q q′)) s u h) d e
 answers-alike look s u h a b s′ u′ d e =
-    outcome-alike (by-loaded (λ x y. SameOutcome (lookCall x) (lookCall y)) look-alike (λ p p′ q q′. (refl, empty-alike p p′ q q′)) s u h) d e
+    outcome-alike (by-loaded (λ x y. SameOutcome (lookCall x) (lookCall y)) look-alike (λ p p′ ix ix′ q q′. (refl, empty-alike p p′ ix ix′ q q′)) s u h) d e
 answers-alike (write c) s u h a b s′ u′ d e =
-    fills-alike (by-loaded (λ x y. SameFills (writeCall x c) (writeCall y c)) (λ p p′ q z. write-alike p p′ q z c) (λ p p′ q q′. (refl, refl, empty-alike p p′ q q′)) s u h) a b d e
+    fills-alike (by-loaded (λ x y. SameFills (writeCall x c) (writeCall y c)) (λ p p′ ix ix′ q z. write-alike p p′ ix ix′ q z c) (λ p p′ ix ix′ q q′. (refl, refl, empty-alike p p′ ix ix′ q q′)) s u h) a b d e
 answers-alike (model c) s u h a b s′ u′ d e =
-    fills-alike (by-loaded (λ x y. SameFills (modelCall x c) (modelCall y c)) (λ p p′ q z. model-alike p p′ q z c) (λ p p′ q q′. (refl, refl, empty-alike p p′ q q′)) s u h) a b d e
+    fills-alike (by-loaded (λ x y. SameFills (modelCall x c) (modelCall y c)) (λ p p′ ix ix′ q z. model-alike p p′ ix ix′ q z c) (λ p p′ ix ix′ q q′. (refl, refl, empty-alike p p′ ix ix′ q q′)) s u h) a b d e
 answers-alike (name i c) s u h a b s′ u′ d e =
-    fills-alike (by-loaded (λ x y. SameFills (nameCall x i c) (nameCall y i c)) (λ p p′ q z. name-alike p p′ q z i c) (λ p p′ q q′. (refl, refl, empty-alike p p′ q q′)) s u h) a b d e
+    fills-alike (by-loaded (λ x y. SameFills (nameCall x i c) (nameCall y i c)) (λ p p′ ix ix′ q z. name-alike p p′ ix ix′ q z i c) (λ p p′ ix ix′ q q′. (refl, refl, empty-alike p p′ ix ix′ q q′)) s u h) a b d e
 answers-alike (shown i) s u h a b s′ u′ d e =
-    outcome-alike (by-loaded (λ x y. SameOutcome (shownCall x i) (shownCall y i)) (λ p p′ q z. shown-alike p p′ q z i) (λ p p′ q q′. (refl, empty-alike p p′ q q′)) s u h) d e
+    outcome-alike (by-loaded (λ x y. SameOutcome (shownCall x i) (shownCall y i)) (λ p p′ ix ix′ q z. shown-alike p p′ ix ix′ q z i) (λ p p′ ix ix′ q q′. (refl, empty-alike p p′ ix ix′ q q′)) s u h) d e
 
 -- ---- LISTS OF CALLS
 

@@ -16,6 +16,7 @@ use Rattle.optimizer.specs.State.{isRunning}
 use Rattle.optimizer.specs.Advance.{advanceOf, advancesOf, madeBy}
 use Rattle.optimizer.specs.Run.{bumpedBy}
 use Rattle.optimizer.proofs.Advancing.{rest-advances, rest-made}
+use Rattle.indexing.specs.declared.build.Occurrences.{Occurrences}
 use Rattle.planner.specs.declared.service.Status.{Status}
 use Rattle.planner.specs.declared.service.Status.the-variants as status
 use Rattle.planner.specs.Held.{service, sourceOf, statusOf}
@@ -124,15 +125,15 @@ module _ (S : Source) where
       go false e ih = ap (λ (x : Search). isRunning (x .phase)) (rest-advances S (suc b) s e) ∙ e
 
 -- "A run with count k leaves the service as k advance calls in a row would, each made while running"
-pub run-advances : (p : Stored) (b : ℕ) (q : Search) → Advances (madeBy (sourceOf p) b q) (service true p q) (service true p (advancesOf (sourceOf p) b q))
+pub run-advances : (p : Stored) (ix : Occurrences) (b : ℕ) (q : Search) → Advances (madeBy (sourceOf p) b q) (service true p ix q) (service true p ix (advancesOf (sourceOf p) b q))
 unfolding madeBy advancesOf
-run-advances p zero q = refl
-run-advances p (suc b) q = go (isRunning (q .phase)) refl (run-advances p b (advanceOf (sourceOf p) q))
+run-advances p ix zero q = refl
+run-advances p ix (suc b) q = go (isRunning (q .phase)) refl (run-advances p ix b (advanceOf (sourceOf p) q))
   where
     go : (x : Bool) → isRunning (q .phase) ≡ x
-        → Advances (madeBy (sourceOf p) b (advanceOf (sourceOf p) q)) (service true p (advanceOf (sourceOf p) q)) (service true p (advancesOf (sourceOf p) b (advanceOf (sourceOf p) q)))
-        → Advances (madeBy (sourceOf p) (suc b) q) (service true p q) (service true p (advancesOf (sourceOf p) (suc b) q))
-    go true e h = subst (λ (n : ℕ). Advances n (service true p q) (service true p (advancesOf (sourceOf p) (suc b) q))) (sym (once (sourceOf p) b q true e)) (running-status (q .phase) e, h)
+        → Advances (madeBy (sourceOf p) b (advanceOf (sourceOf p) q)) (service true p ix (advanceOf (sourceOf p) q)) (service true p ix (advancesOf (sourceOf p) b (advanceOf (sourceOf p) q)))
+        → Advances (madeBy (sourceOf p) (suc b) q) (service true p ix q) (service true p ix (advancesOf (sourceOf p) (suc b) q))
+    go true e h = subst (λ (n : ℕ). Advances n (service true p ix q) (service true p ix (advancesOf (sourceOf p) (suc b) q))) (sym (once (sourceOf p) b q true e)) (running-status (q .phase) e, h)
     go false e h =
-        subst (λ (n : ℕ). Advances n (service true p q) (service true p (advancesOf (sourceOf p) (suc b) q))) (sym (once (sourceOf p) b q false e))
-        (ap (service true p) (rest-advances (sourceOf p) (suc b) q e))
+        subst (λ (n : ℕ). Advances n (service true p ix q) (service true p ix (advancesOf (sourceOf p) (suc b) q))) (sym (once (sourceOf p) b q false e))
+        (ap (service true p ix) (rest-advances (sourceOf p) (suc b) q e))

@@ -25,9 +25,10 @@ use Rattle.optimizer.specs.State.{freshSearch}
 use Rattle.optimizer.specs.Advance.{advancesOf, madeBy}
 use Rattle.optimizer.specs.Facts.{Facts, hasModel, isInWork, lowersIn, uppersIn, bestIn, costsIn}
 use Rattle.optimizer.proofs.Reached.{reached-facts}
+use Rattle.indexing.specs.declared.build.Occurrences.{Occurrences}
 use Rattle.planner.specs.declared.service.Service.{Service}
 use Rattle.planner.specs.declared.service.Status.the-variants as status
-use Rattle.planner.specs.Held.{freshService, sourceOf, statusOf}
+use Rattle.planner.specs.Held.{freshService, sourceOf, ListsOf, statusOf}
 use Rattle.planner.specs.Sound.{Sound}
 use Rattle.planner.specs.Calls.{gives, Loads, outcome, fills, filled, unfilled, given, levelSeen, byteOf, modelBytes, modelCall, AfterLoad}
 use Rattle.planner.specs.Tally.{load, Does, Tally, tally, begin}
@@ -47,7 +48,7 @@ exactly s n t b e f =
 
 -- ---- the claim, of the tables p after k advances
 
-module _ (t : List ℕ) (p : Stored) (w : WellFormed p) (k : ℕ) where
+module _ (t : List ℕ) (p : Stored) (w : WellFormed p) (ix : Occurrences) (k : ℕ) where
   abbrev S : Source
   S = sourceOf p
 
@@ -58,7 +59,7 @@ module _ (t : List ℕ) (p : Stored) (w : WellFormed p) (k : ℕ) where
   P = storedProgram p
 
   abbrev s : Service
-  s = steppedTo p k
+  s = steppedTo p ix k
 
   facts : Facts S (madeBy S k freshSearch) q
   facts = reached-facts S (formed-source p w) k
@@ -79,12 +80,12 @@ module _ (t : List ℕ) (p : Stored) (w : WellFormed p) (k : ℕ) where
             exactly = λ b h. written e b ∙ exactly s (atoms P) (modelBytes (bestIn q) (atoms P)) b (span-length (byteOf (bestIn q)) 1 (atoms P)) h;
             stable = facts .stable e;
             costs = sym (costs-is p w (bestIn q)) ∙ sym (facts .upper e);
-            shows = λ i y h. shown-by p q i y h e;
+            shows = λ i y h. shown-by p ix q i y h e;
           }
       go false e =
           record {
             model = λ b. sym (at-false (hasModel (q .phase)) (filled s (modelBytes (bestIn q) (p .counts .atoms)) b) (unfilled 7 s b) e);
-            shows = λ i y h. shown-without p q i y h e;
+            shows = λ i y h. shown-without p ix q i y h e;
           }
 
   optimum-of : statusOf (q .phase) ≡ status.Optimum
@@ -117,7 +118,7 @@ module _ (t : List ℕ) (p : Stored) (w : WellFormed p) (k : ℕ) where
         made = madeBy S b q;
         held = statusOf (advancesOf S b q .phase);
         answer = refl;
-        advances = run-advances p b q;
+        advances = run-advances p ix b q;
         most = made-most S b q;
         ends = λ h. runs-is (advancesOf S b q .phase) ∙ made-ends S b q h;
       }
@@ -179,8 +180,8 @@ module _ (t : List ℕ) (p : Stored) (w : WellFormed p) (k : ℕ) where
         counted = facts .figure ∙ figure-min (madeBy S k freshSearch);
         priorities = refl;
         writes = λ b. refl;
-        names = name-by p q;
-        unnamed = shown-gone p q;
+        names = name-by p ix q;
+        unnamed = shown-gone p ix q;
         lower = λ M g. subst (NoDearer ltb (lowersIn S q)) (costs-is p w M) (facts .lower M g);
         best = best-of;
         optimum = optimum-of;
@@ -198,8 +199,8 @@ module _ (t : List ℕ) (p : Stored) (w : WellFormed p) (k : ℕ) where
         bounds-meet = meet-of;
       }
 
-  sound-of : Sound s
-  sound-of = record { formed = λ h. w; reached = λ h. record { source = formed-source p w; made = k; is = refl } }
+  sound-of : ListsOf p ix → Sound s
+  sound-of o = record { formed = λ h. w; listed = λ h. o; reached = λ h. record { source = formed-source p w; made = k; is = refl } }
 
 -- ---- a load leaves what it could have left of a fresh service
 
@@ -209,7 +210,7 @@ fresh-of s t P w e a u d = subst (λ (x : Answer). AfterLoad x freshService (out
 -- ---- DEMAND 3
 
 sound-fresh : Sound freshService
-sound-fresh = record { formed = λ h. absurd (true≢false (sym h)); reached = λ h. absurd (true≢false (sym h)) }
+sound-fresh = record { formed = λ h. absurd (true≢false (sym h)); listed = λ h. absurd (true≢false (sym h)); reached = λ h. absurd (true≢false (sym h)) }
 
 demand-idle : Demand freshService begin
 demand-idle = record { sound = sound-fresh; claim = record { loaded = refl; tally = refl; look = refl }; fresh = fresh-of freshService }
@@ -217,18 +218,19 @@ demand-idle = record { sound = sound-fresh; claim = record { loaded = refl; tall
 demand-now : (t : List ℕ) {s : Service} {T : Tally} → Now t s T → Demand s T
 demand-now t {s} {T} n =
     let p = n .stored in
+    let ix = n .index in
     let k = n .steps in
     let w = n .tables .formed in
-    let c : Claim (n .program) (n .written) (steppedTo p k) (toldAs t p k) =
-    subst (λ (x : Program). Claim x (n .written) (steppedTo p k) (toldAs t p k)) (n .tables .program)
-    (subst (λ (x : List ℕ). Claim (storedProgram p) x (steppedTo p k) (toldAs t p k)) (n .tables .text) (claim-of t p w k)) in
-    let d : Demand (steppedTo p k) (toldAs t p k) =
+    let c : Claim (n .program) (n .written) (steppedTo p ix k) (toldAs t p k) =
+    subst (λ (x : Program). Claim x (n .written) (steppedTo p ix k) (toldAs t p k)) (n .tables .program)
+    (subst (λ (x : List ℕ). Claim (storedProgram p) x (steppedTo p ix k) (toldAs t p k)) (n .tables .text) (claim-of t p w ix k)) in
+    let d : Demand (steppedTo p ix k) (toldAs t p k) =
     record {
-      sound = sound-of t p w k;
+      sound = sound-of t p w ix k (n .lists);
       claim = record { program = n .program; written = n .written; is = n .is; claim = c };
-      fresh = fresh-of (steppedTo p k);
+      fresh = fresh-of (steppedTo p ix k);
     } in
-    subst (λ (x : Service). Demand x T) (sym (n .service-is)) (subst (Demand (steppedTo p k)) (sym (n .tally-is)) d)
+    subst (λ (x : Service). Demand x T) (sym (n .service-is)) (subst (Demand (steppedTo p ix k)) (sym (n .tally-is)) d)
 
 demand-of : (s : Service) (T : Tally) → Together s T → Demand s T
 demand-of s T (inl (e, f)) = subst (λ (x : Service). Demand x T) (sym e) (subst (Demand freshService) (sym f) demand-idle)

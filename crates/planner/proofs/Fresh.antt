@@ -1,5 +1,5 @@
 -- A fresh service, from its parts. Assumes nothing.
-use mathlib.Core.Path.{_≡_, ap, ap₂}
+use mathlib.Core.Path.{_≡_, ap, ap₂, _∙_}
 use mathlib.Core.Bool.{false}
 use lib.IntN.{pos}
 use lib.ListN.{replicate}
@@ -7,6 +7,8 @@ use Rattle.aspif.specs.declared.table.Counts.{Counts}
 use Rattle.aspif.specs.declared.text.Stored.{Stored}
 use Rattle.optimizer.specs.declared.state.Search.{Search}
 use Rattle.optimizer.specs.State.{freshSearch}
+use Rattle.indexing.specs.declared.build.Occurrences.{Occurrences}
+use Rattle.indexing.specs.Leaf.{noOccurrences}
 use Rattle.planner.specs.Held.{service, emptyCounts, emptyStored, freshService}
 
 -- empty tables, with the counts k
@@ -28,5 +30,5 @@ storedWith k =
 pub empty-stored-is : {k : Counts} → k ≡ emptyCounts → storedWith k ≡ emptyStored
 empty-stored-is e = ap storedWith e
 
-pub fresh-is : {p : Stored} → p ≡ emptyStored → {q : Search} → q ≡ freshSearch → service false p q ≡ freshService
-fresh-is e f = ap₂ (service false) e f
+pub fresh-is : {p : Stored} → p ≡ emptyStored → {ix : Occurrences} → ix ≡ noOccurrences → {q : Search} → q ≡ freshSearch → service false p ix q ≡ freshService
+fresh-is e d {q} f = ap₂ (λ (p : Stored) (ix : Occurrences). service false p ix q) e d ∙ ap (service false emptyStored noOccurrences) f

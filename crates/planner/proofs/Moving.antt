@@ -13,18 +13,20 @@ use Rattle.aspif.specs.declared.text.Stored.{Stored}
 use Rattle.aspif.specs.declared.text.Loading.{Loading}
 use Rattle.aspif.specs.declared.text.Loading.the-variants.{Accepted, RefusedAt}
 use Rattle.optimizer.specs.declared.state.Search.{Search}
-use Rattle.optimizer.specs.Source.{Source, source, levelTables, many}
+use Rattle.optimizer.specs.Source.{Source, source, levelTables, many, ruleTables}
+use Rattle.indexing.specs.Sorting.{Readied}
 use Rattle.optimizer.specs.State.{freshSearch}
 use Rattle.optimizer.specs.Advance.{advanceOf, madeBy}
 use Rattle.optimizer.specs.Run.{AfterRun, afterRun, runOf, Reached}
 use Rattle.optimizer.specs.Facts.{Facts, hasModel, isInWork}
 use Rattle.optimizer.proofs.Reached.{reached-facts}
+use Rattle.indexing.specs.declared.build.Occurrences.{Occurrences}
 use Rattle.planner.specs.declared.service.Service.{Service}
 use Rattle.planner.specs.declared.service.Status.{Status}
-use Rattle.planner.specs.Held.{service, sourceOf, statusOf}
+use Rattle.planner.specs.Held.{service, sourceOf, ListsOf, statusOf}
 use Rattle.planner.specs.Calls.{Says, gives, refuses, Outcome, outcome, movedTo, advanced, advanceCall, Count, countOf, ran, made, runCall, accepts, refusesAt, AfterLoad, Seen, seen, given, seenIn, nothingSeen, lookCall, levelSeen, stratumSeen}
 use Rattle.planner.proofs.Answers.{at-true}
-use Rattle.planner.proofs.Link.{levels-many, priorities-is}
+use Rattle.planner.proofs.Link.{formed-source, levels-many, priorities-is}
 
 -- ---- advance and run
 
@@ -65,11 +67,15 @@ module _ (s : Service) where
 
 -- ---- load
 
-pub load-accepted : (s : Service) (x : Answer) (p : Stored) {a : Loading} → a ≡ Accepted → answerOf p a ≡ x → StoredAfter p a → {q : Search} → q ≡ freshSearch
-    → AfterLoad x s (outcome accepts (service true p q))
-load-accepted s x p e t f {q} d =
-    subst (λ (y : Answer). AfterLoad y s (outcome accepts (service true p q))) (ap (answerOf p) (sym e) ∙ t)
-    (refl, record { loaded = refl; tables = record { formed = subst (StoredAfter p) e f; program = refl; text = refl }; search = d })
+-- what an accepted text leaves can be listed
+pub loaded-readied : (p : Stored) {a : Loading} → a ≡ Accepted → StoredAfter p a → Readied (ruleTables (sourceOf p))
+loaded-readied p e f = formed-source p (subst (StoredAfter p) e f) .readied
+
+pub load-accepted : (s : Service) (x : Answer) (p : Stored) {a : Loading} → a ≡ Accepted → answerOf p a ≡ x → StoredAfter p a → {ix : Occurrences} → ListsOf p ix → {q : Search} → q ≡ freshSearch
+    → AfterLoad x s (outcome accepts (service true p ix q))
+load-accepted s x p e t f {ix} o {q} d =
+    subst (λ (y : Answer). AfterLoad y s (outcome accepts (service true p ix q))) (ap (answerOf p) (sym e) ∙ t)
+    (refl, record { loaded = refl; tables = record { formed = subst (StoredAfter p) e f; program = refl; text = refl }; lists = o; search = d })
 
 pub load-refused : (s : Service) (x : Answer) (p : Stored) (c m : ℕ) {a : Loading} → a ≡ RefusedAt c m → answerOf p a ≡ x → AfterLoad x s (outcome (refusesAt c m) s)
 load-refused s x p c m e t = subst (λ (y : Answer). AfterLoad y s (outcome (refusesAt c m) s)) (ap (answerOf p) (sym e) ∙ t) refl

@@ -10,14 +10,16 @@ use Rattle.aspif.specs.declared.text.Stored.{Stored}
 use Rattle.optimizer.specs.declared.state.Phase.{Phase}
 use Rattle.optimizer.specs.declared.state.Phase.the-variants.{First, Level, Optimum, Incoherent, Full}
 use Rattle.optimizer.specs.declared.state.Search.{Search}
-use Rattle.optimizer.specs.Source.{Source, source, levelTables}
+use Rattle.indexing.specs.declared.build.Occurrences.{Occurrences}
+use Rattle.indexing.specs.Leaf.{Indexes, noOccurrences}
+use Rattle.optimizer.specs.Source.{Source, source, levelTables, ruleTables}
 use Rattle.optimizer.specs.State.{freshSearch}
 use Rattle.planner.specs.declared.service.Service.{Service}
 use Rattle.planner.specs.declared.service.Status.{Status}
 use Rattle.planner.specs.declared.service.Status.the-variants as status
 
-abbrev pub service : Bool → Stored → Search → Service
-service l p q = record { loaded = l; stored = p; search = q }
+abbrev pub service : Bool → Stored → Occurrences → Search → Service
+service l p ix q = record { loaded = l; stored = p; lists = ix; search = q }
 
 -- ---- nothing is loaded
 
@@ -41,7 +43,7 @@ emptyStored =
 
 -- "A fresh service has nothing loaded and status empty."
 abbrev pub freshService : Service
-freshService = service false emptyStored freshSearch
+freshService = service false emptyStored noOccurrences freshSearch
 
 -- ---- a program is loaded
 
@@ -50,6 +52,11 @@ abbrev pub sourceOf : Stored → Source
 sourceOf p =
     source (p .counts .atoms) (p .pool) (p .rules) (p .counts .rules)
     (levelTables (take (p .counts .levels) (p .levels)) (p .priorities) (p .literals) (p .weights) (p .counts .entries))
+
+-- the lists are those of the tables: of each literal the rules in which it is a condition, of each atom those with it in the head. They make an advance fast, and no
+-- answer depends on how they lie.
+abbrev pub ListsOf : Stored → Occurrences → Type 0
+ListsOf p ix = Indexes (ruleTables (sourceOf p)) (ix .conditions) (ix .heads)
 
 -- the symbol at a position
 abbrev pub symbolOf : Stored → ℕ → Symbol

@@ -42,6 +42,9 @@ pub fn advance(s: Service) -> Advanced
     let q = s.search;
     let c = p.counts;
     let levels = p.levels;
+    let o = s.lists;
+    let by_condition = o.conditions;
+    let by_head = o.heads;
     let t = optimizer::run::advance(
         c.atoms,
         &p.pool,
@@ -52,6 +55,10 @@ pub fn advance(s: Service) -> Advanced
         &p.literals,
         &p.weights,
         c.entries,
+        &by_condition.starts,
+        &by_condition.rules,
+        &by_head.starts,
+        &by_head.rules,
         q,
     );
     let phase = t.phase;
@@ -59,6 +66,7 @@ pub fn advance(s: Service) -> Advanced
     let next = Service {
         loaded: true,
         stored: p,
+        lists: o,
         search: t,
     };
     Advanced {
@@ -93,6 +101,9 @@ pub fn run(s: Service, budget: u32) -> Ran
     let q = s.search;
     let c = p.counts;
     let levels = p.levels;
+    let o = s.lists;
+    let by_condition = o.conditions;
+    let by_head = o.heads;
     let a = optimizer::run::run(
         c.atoms,
         &p.pool,
@@ -103,6 +114,10 @@ pub fn run(s: Service, budget: u32) -> Ran
         &p.literals,
         &p.weights,
         c.entries,
+        &by_condition.starts,
+        &by_condition.rules,
+        &by_head.starts,
+        &by_head.rules,
         q,
         budget,
     );
@@ -112,6 +127,7 @@ pub fn run(s: Service, budget: u32) -> Ran
     let next = Service {
         loaded: true,
         stored: p,
+        lists: o,
         search: t,
     };
     Ran {

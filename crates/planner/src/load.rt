@@ -18,10 +18,13 @@ pub fn load(s: Service, text: &[u8]) -> Loaded
     match answer {
         Loading::Accepted => {
             let p = l.stored;
+            let c = p.counts;
+            let o = indexing::build::list_rules(&p.pool, &p.rules, c.rules);
             let q = optimizer::run::fresh();
             let next = Service {
                 loaded: true,
                 stored: p,
+                lists: o,
                 search: q,
             };
             Loaded {

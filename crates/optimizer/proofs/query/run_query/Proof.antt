@@ -14,11 +14,11 @@ use Rattle.optimizer.proofs.query.run_query.Statement.{statement}
 use Rattle.optimizer.proofs.query.run_query.Tie as tie
 
 -- what is known where the columns are unpacked
-sound : (c : tie.After-unpack) → SoundTables (c .before .before .before .before .before .before .before .before .before .args .w .tables)
-sound c = c .before .before .before .before .before .before .before .before .before .pre .1 .1 .1
+sound : (c : tie.After-unpack) → SoundTables (c .before .before .before .before .before .before .before .before .before .before .before .before .before .args .w .tables)
+sound c = c .before .before .before .before .before .before .before .before .before .before .before .before .before .pre .1 .1 .1 .0
 
 filled : (c : tie.After-unpack)
-    → Filled (c .before .before .before .before .before .before .before .before .before .args .w .tables) (columns (c .unpack .last .1 .1 .0) (c .unpack .last .1 .1 .1 .0) (c .unpack .last .1 .1 .1 .1 .0) (c .unpack .last .1 .1 .1 .1 .1 .0))
+    → Filled (c .before .before .before .before .before .before .before .before .before .before .before .before .before .args .w .tables) (columns (c .unpack .last .1 .1 .0) (c .unpack .last .1 .1 .1 .0) (c .unpack .last .1 .1 .1 .1 .0) (c .unpack .last .1 .1 .1 .1 .1 .0))
 filled c = filled-by (sound c .formed) zeros-long (c .unpack .ensures)
 
 unpack-requires : tie.Need-unpack-requires
@@ -52,32 +52,32 @@ slice-aggregate-run-columns-4 : tie.Need-slice-aggregate-run-columns-4
 slice-aggregate-run-columns-4 c = cut-long _ _ (reach-weights (sound (c .before .before .before .before .before .before .before .before .before)) (filled (c .before .before .before .before .before .before .before .before .before)))
 
 add-ends : tie.Need-add-ends
-add-ends c = search needs
+add-ends c = search (sound (c .before .before .before .before .before .before .before .before .before) .formed, needs)
 
 array-share-prefix-ends : tie.Need-array-share-prefix-ends
-array-share-prefix-ends c = search needs
+array-share-prefix-ends c = search (sound (c .before .before .before .before .before .before .before .before .before) .formed, needs)
 
 slice-aggregate-run-columns-5 : tie.Need-slice-aggregate-run-columns-5
 slice-aggregate-run-columns-5 c = cut-long _ _ (reach-ends (sound (c .before .before .before .before .before .before .before .before .before .before)) (filled (c .before .before .before .before .before .before .before .before .before .before)))
 
 array-share-prefix-members : tie.Need-array-share-prefix-members
-array-share-prefix-members c = search needs
+array-share-prefix-members c = search (sound (c .before .before .before .before .before .before .before .before .before .before) .formed, needs)
 
 slice-aggregate-run-columns-6 : tie.Need-slice-aggregate-run-columns-6
 slice-aggregate-run-columns-6 c = cut-long _ _ (omega (arith, c .before .before .before .before .before .before .before .held .ensures, reach-members (sound (c .before .before .before .before .before .before .before .before .before .before .before)) (filled (c .before .before .before .before .before .before .before .before .before .before .before))))
 
 run-columns-requires : tie.Need-run-columns-requires
 run-columns-requires c κs =
-    let a = c .before .before .before .before .before .before .before .before .before .before .before .before .before .before .before .before .before .before .before .before in
+    let a = c .before .before .before .before .before .before .before .before .before .before .before .before .before .before .before .before .before .before .before .before .before .before .before .before in
     let u = c .before .before .before .before .before .before .before .before .before .before .before in
     let e = c .before .before .before .before .before .before .before .held .ensures in
     let S = source (a .args .n) (a .args .pool .now) (a .args .rows .now) (a .args .rulecount) (levelTables (a .args .levels .now) (a .args .priorities .now) (a .args .literals .now) (a .args .weights .now) (a .args .entrycount)) in
     let q = columns-query (a .args .w .tables) (columns (u .unpack .last .1 .1 .0) (u .unpack .last .1 .1 .1 .0) (u .unpack .last .1 .1 .1 .1 .0) (u .unpack .last .1 .1 .1 .1 .1 .0)) (filled u) (a .args .w .level) (a .args .w .stratum) (a .args .w .lowers) in
-    (rw e (subst (λ (x : QueryTables). ReadyQuery S x) (sym q) (a .pre .0)), (rw e (subst (λ (x : QueryTables). GoodBlame x (a .args .blame)) (sym q) (a .pre .1 .0)), (a .pre .1 .1 .0, (few-many (sound u) (filled u), same-cores (sound u) (filled u)))))
+    (rw e (subst (λ (x : QueryTables). ReadyQuery S x) (sym q) (a .pre .0)), (rw e (subst (λ (x : QueryTables). GoodBlame x (a .args .blame)) (sym q) (a .pre .1 .0)), (a .pre .1 .1 .0, ((few-many (sound u) (filled u), same-cores (sound u) (filled u)), a .pre .1 .1 .1 .1))))
 
 returns : tie.Need-returns
 returns c =
-    let a = c .before .before .before .before .before .before .before .before .before .before .before .before .before .before .before .before .before .before .before .before .before in
+    let a = c .before .before .before .before .before .before .before .before .before .before .before .before .before .before .before .before .before .before .before .before .before .before .before .before .before in
     let u = c .before .before .before .before .before .before .before .before .before .before .before .before in
     let e = c .before .before .before .before .before .before .before .before .held .ensures in
     let S = source (a .args .n) (a .args .pool .now) (a .args .rows .now) (a .args .rulecount) (levelTables (a .args .levels .now) (a .args .priorities .now) (a .args .literals .now) (a .args .weights .now) (a .args .entrycount)) in

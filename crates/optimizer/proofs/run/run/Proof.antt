@@ -12,11 +12,11 @@ use Rattle.optimizer.proofs.run.run.Statement.{statement}
 use Rattle.optimizer.proofs.run.run.Tie as tie
 
 abbrev Inv-loop : tie.InvT-loop
-Inv-loop n pool rows rulecount levels priorities literals weights entrycount budget s₀ made₀ s made =
+Inv-loop n pool rows rulecount levels priorities literals weights entrycount starts lists headstarts headlists budget s₀ made₀ s made =
     Running (source n pool rows rulecount (levelTables levels priorities literals weights entrycount)) budget s₀ s made
 
 abbrev μ-loop : tie.MeasureT-loop
-μ-loop n pool rows rulecount levels priorities literals weights entrycount budget s₀ made₀ s made =
+μ-loop n pool rows rulecount levels priorities literals weights entrycount starts lists headstarts headlists budget s₀ made₀ s made =
     budget - made
 
 loop-holds : tie.Need-loop-holds Inv-loop μ-loop
@@ -32,16 +32,18 @@ sub-run-steps : tie.Need-sub-run-steps Inv-loop μ-loop
 sub-run-steps c = search needs
 
 run-steps-requires : tie.Need-run-steps-requires Inv-loop μ-loop
-run-steps-requires c κs = running-ready (c .before .before .before .loop .inv) (reached-steady (c .before .before .before .before .before .before .pre)) _
+run-steps-requires c κs =
+    let a = c .before .before .before .before .before .before .before .before .before .before in
+    (running-ready (c .before .before .before .loop .inv) (reached-steady (a .pre .0)) _, a .pre .1)
 
 add-made : tie.Need-add-made Inv-loop μ-loop
-add-made c = omega (arith, made-more (c .before .before .before .before .before .before .loop .inv) (c .before .before .before .before .before .loop-test .taken) (c .before .before .before .before .is-running .ensures) (not-false _ (c .before .before .before .if1 .left)) (running-ready (c .before .before .before .before .before .before .loop .inv) (reached-steady (c .before .before .before .before .before .before .before .before .before .pre)) 0 .figure) refl (c .before .before .run-steps .ensures), c .before .before .before .before .before .before .before .before .before .fits .budget)
+add-made c = omega (arith, made-more (c .before .before .before .before .before .before .loop .inv) (c .before .before .before .before .before .loop-test .taken) (c .before .before .before .before .is-running .ensures) (not-false _ (c .before .before .before .if1 .left)) (running-ready (c .before .before .before .before .before .before .loop .inv) (reached-steady (c .before .before .before .before .before .before .before .before .before .before .before .before .before .pre .0)) 0 .figure) refl (c .before .before .run-steps .ensures), c .before .before .before .before .before .before .before .before .before .before .before .before .before .fits .budget)
 
 loop-less : tie.Need-loop-less Inv-loop μ-loop
-loop-less c = omega (arith, made-more (c .before .before .before .before .before .before .loop .inv) (c .before .before .before .before .before .loop-test .taken) (c .before .before .before .before .is-running .ensures) (not-false _ (c .before .before .before .if1 .left)) (running-ready (c .before .before .before .before .before .before .loop .inv) (reached-steady (c .before .before .before .before .before .before .before .before .before .pre)) 0 .figure) refl (c .before .before .run-steps .ensures))
+loop-less c = omega (arith, made-more (c .before .before .before .before .before .before .loop .inv) (c .before .before .before .before .before .loop-test .taken) (c .before .before .before .before .is-running .ensures) (not-false _ (c .before .before .before .if1 .left)) (running-ready (c .before .before .before .before .before .before .loop .inv) (reached-steady (c .before .before .before .before .before .before .before .before .before .before .before .before .before .pre .0)) 0 .figure) refl (c .before .before .run-steps .ensures))
 
 loop-again : tie.Need-loop-again Inv-loop μ-loop
-loop-again c = running-next (c .before .before .before .before .before .before .loop .inv) (c .before .before .before .before .before .loop-test .taken) (c .before .before .before .before .is-running .ensures) (not-false _ (c .before .before .before .if1 .left)) (running-ready (c .before .before .before .before .before .before .loop .inv) (reached-steady (c .before .before .before .before .before .before .before .before .before .pre)) 0 .figure) refl (c .before .before .run-steps .ensures)
+loop-again c = running-next (c .before .before .before .before .before .before .loop .inv) (c .before .before .before .before .before .loop-test .taken) (c .before .before .before .before .is-running .ensures) (not-false _ (c .before .before .before .if1 .left)) (running-ready (c .before .before .before .before .before .before .loop .inv) (reached-steady (c .before .before .before .before .before .before .before .before .before .before .before .before .before .pre .0)) 0 .figure) refl (c .before .before .run-steps .ensures)
 
 returns-2 : tie.Need-returns-2 Inv-loop μ-loop
 returns-2 c = running-end (c .before .loop .inv) (c .loop-test .left)

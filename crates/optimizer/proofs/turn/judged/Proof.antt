@@ -14,7 +14,7 @@ use Rattle.optimizer.specs.Source.{Source, source, levelTables}
 use Rattle.optimizer.specs.Turn.{QueryTables, queryTables, blameTables, judgeFull, blamedOf}
 use Rattle.optimizer.specs.Ready.{softs}
 use Rattle.optimizer.proofs.Turning.{blame-room, violated-in, backed-is, judged-wanted, judged-dead, judged-violated}
-use Rattle.indexing.proofs.Moving.{leaf-tallied}
+use Rattle.indexing.proofs.Moving.{leaf-equipped}
 use borrow.Author.Needs.{needs}
 use Rattle.optimizer.proofs.turn.judged.Statement.{statement}
 use Rattle.optimizer.proofs.turn.judged.Tie as tie
@@ -59,7 +59,7 @@ enum-told-2 : tie.Need-enum-told-2
 enum-told-2 c = search needs
 
 back-requires : tie.Need-back-requires
-back-requires c κs = (c .before .before .before .before .before .before .before .before .before .before .before .before .before .before .before .before .before .before .before .before .before .before .before .before .pre .1 .1 .0 .good, leaf-tallied (c .before .before .before .before .before .before .before .before .before .before .before .before .before .before .before .before .before .before .before .before .before .before .before .before .pre .1 .1 .1))
+back-requires c κs = (c .before .before .before .before .before .before .before .before .before .before .before .before .before .before .before .before .before .before .before .before .before .before .before .before .pre .1 .1 .0 .good, leaf-equipped (c .before .before .before .before .before .before .before .before .before .before .before .before .before .before .before .before .before .before .before .before .before .before .before .before .pre .1 .1 .1))
 
 backed-requires : tie.Need-backed-requires
 backed-requires c κs = search needs
@@ -76,7 +76,7 @@ blame-place-requires c κs =
     (omega (arith, i, r .few), g .from-in, omega (arith, r .places-long, r .wished-few), g .flags-len, g .core-len, blame-room r g (c .before .before .before .j .given .0 .0) i)
 
 back-requires-2 : tie.Need-back-requires-2
-back-requires-2 c κs = (c .before .before .before .before .before .before .before .before .before .before .before .before .before .before .before .before .before .before .before .before .before .before .before .before .before .before .before .before .before .before .pre .1 .1 .0 .good, leaf-tallied (c .before .before .before .before .before .before .before .before .before .before .before .before .before .before .before .before .before .before .before .before .before .before .before .before .before .before .before .before .before .before .pre .1 .1 .1))
+back-requires-2 c κs = (c .before .before .before .before .before .before .before .before .before .before .before .before .before .before .before .before .before .before .before .before .before .before .before .before .before .before .before .before .before .before .pre .1 .1 .0 .good, leaf-equipped (c .before .before .before .before .before .before .before .before .before .before .before .before .before .before .before .before .before .before .before .before .before .before .before .before .before .before .before .before .before .before .pre .1 .1 .1))
 
 backed-requires-2 : tie.Need-backed-requires-2
 backed-requires-2 c κs = search needs
@@ -85,7 +85,7 @@ same-length : tie.Need-same-length
 same-length c = search needs
 
 returns : tie.Need-returns
-returns c = let s = c .before .before .before .before .before .before .before .before .before .before .before .before .before .before .before .before .before .before .before .before in (judged-wanted (given s) (asked s) (there s) (accused s) (found (c .before .before)) (c .enum-told .given .1), leaf-tallied (s .pre .1 .1 .1))
+returns c = let s = c .before .before .before .before .before .before .before .before .before .before .before .before .before .before .before .before .before .before .before .before in (judged-wanted (given s) (asked s) (there s) (accused s) (found (c .before .before)) (c .enum-told .given .1), leaf-equipped (s .pre .1 .1 .1))
 
 same-length-2 : tie.Need-same-length-2
 same-length-2 c = search needs

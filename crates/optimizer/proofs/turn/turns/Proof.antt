@@ -7,7 +7,7 @@ use native.Mathlib.Omega.{arith}
 use borrow.Author.Tests.{not-true, not-false}
 use Rattle.search.specs.Places.{places}
 use Rattle.search.specs.Scan.{rules}
-use Rattle.counting.specs.Tally.{index, tally}
+use Rattle.counting.specs.Counters.{index, counters}
 use Rattle.cores.specs.Judging.{judging}
 use Rattle.optimizer.specs.Source.{source, levelTables}
 use Rattle.optimizer.specs.Turn.{queryTables, blameTables}
@@ -17,7 +17,7 @@ use Rattle.optimizer.proofs.turn.turns.Tie as tie
 
 abbrev Inv-loop : tie.InvT-loop
 Inv-loop n pool rows rulecount levels priorities literals weights entrycount level lowers wished spots assumed softs cores indices ends members starts lists headstarts headlists lits₀ marks₀ value₀ key₀ flags₀ core₀ start first budget len₀ from₀ at₀ made₀ lits marks value key flags core len from at made =
-    TrackedOn (rules pool rows rulecount) (index starts lists) (index headstarts headlists) value (tally key at) (Turned-on (source n pool rows rulecount (levelTables levels priorities literals weights entrycount))
+    TrackedOn (rules pool rows rulecount) (index starts lists) (index headstarts headlists) value (counters key at) (Turned-on (source n pool rows rulecount (levelTables levels priorities literals weights entrycount))
     (queryTables level lowers wished spots assumed (judging softs cores indices ends members)) budget (places lits₀ marks₀ value₀ start) (blameTables flags₀ core₀ first) (places lits marks value len)
     (blameTables flags core from) made)
 

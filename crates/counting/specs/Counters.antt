@@ -1,0 +1,72 @@
+-- A number for each rule, kept by every move: what a move does to the table. Assumes nothing: these are definitions.
+use mathlib.Core.Path.{_≡_}
+use mathlib.Core.Bool.{Bool, true, false}
+use mathlib.Core.List.{List}
+use Prim.Native.Nat.{ℕ, zero, suc, _+_, _-_, _*_, _≤_, _<_}
+use lib.Dec.{eqb, ltb}
+use lib.ListN.{length, getD, set}
+use Rattle.asp.specs.Sets.{pick}
+use Rattle.counting.specs.declared.counters.Index.{Index}
+use Rattle.counting.specs.declared.counters.Marks.{Marks}
+
+-- literal a has list 2a, and its negation list 2a + 1; among the heads atom a has list a
+abbrev pub index : List ℕ → List ℕ → Index
+index s r = record { starts = s; rules = r }
+
+pub record Shaped (o : Index) : Type 0 where
+  pub long : length (o .starts) ≡ 2051
+  pub inside : (i : ℕ) → getD (o .starts) i 0 ≤ length (o .rules)
+  pub small : (e : ℕ) → getD (o .rules) e 0 < 2048
+
+pub record Counters : Type 0 where
+  pub key : List ℕ
+  pub marks : Marks
+
+abbrev pub counters : List ℕ → Marks → Counters
+counters k m = record { key = k; marks = m }
+
+abbrev pub marks : ℕ → ℕ → Marks
+marks b l = record { broken = b; low = l }
+
+-- one more, up to 65,535
+abbrev pub plusOne : ℕ → ℕ
+plusOne k = pick (ltb k 65535) (k + 1) k
+
+abbrev pub least : ℕ → ℕ → ℕ
+least r low = pick (ltb r low) r low
+
+abbrev pub lowerMarks : ℕ → ℕ → Marks → Marks
+lowerMarks r k m = pick (ltb 2 k) m (pick (eqb k 1) (marks (plusOne (m .broken)) (least r (m .low))) (marks (m .broken) (least r (m .low))))
+
+abbrev pub raiseMarks : ℕ → Marks → Marks
+raiseMarks k m = pick (eqb k 0) (marks (m .broken - 1) (m .low)) m
+
+unfoldable pub lowerAt : ℕ → Counters → Counters
+lowerAt r t = counters (set (t .key) r (getD (t .key) r 0 - 1)) (lowerMarks r (getD (t .key) r 0) (t .marks))
+
+unfoldable pub raiseAt : ℕ → Counters → Counters
+raiseAt r t = counters (set (t .key) r (plusOne (getD (t .key) r 0))) (raiseMarks (getD (t .key) r 0) (t .marks))
+
+unfoldable pub lowerFrom : List ℕ → ℕ → ℕ → Counters → Counters
+lowerFrom rs e zero t = t
+lowerFrom rs e (suc k) t = lowerFrom rs (e + 1) k (lowerAt (getD rs e 0) t)
+
+unfoldable pub raiseFrom : List ℕ → ℕ → ℕ → Counters → Counters
+raiseFrom rs e zero t = t
+raiseFrom rs e (suc k) t = raiseFrom rs (e + 1) k (raiseAt (getD rs e 0) t)
+
+-- list i: its first place, and how long it is
+abbrev pub first : Index → ℕ → ℕ
+first o i = getD (o .starts) i 0
+
+abbrev pub listLength : Index → ℕ → ℕ
+listLength o i = first o (i + 1) - first o i
+
+unfoldable pub shiftOf : Index → ℕ → ℕ → Counters → Counters
+shiftOf o down up t = raiseFrom (o .rules) (first o up) (listLength o up) (lowerFrom (o .rules) (first o down) (listLength o down) t)
+
+unfoldable pub decideOf : Index → ℕ → ℕ → Counters → Counters
+decideOf o a s t = pick (eqb s 1) (shiftOf o (a * 2) (a * 2 + 1) t) (shiftOf o (a * 2 + 1) (a * 2) t)
+
+unfoldable pub releaseOf : Index → ℕ → ℕ → Counters → Counters
+releaseOf o a y t = pick (eqb y 0) t (pick (eqb y 1) (shiftOf o (a * 2 + 1) (a * 2) t) (shiftOf o (a * 2) (a * 2 + 1) t))
