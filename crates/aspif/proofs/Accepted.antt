@@ -205,52 +205,65 @@ fine-add l (symbol s) p h f =
 fine-add l comment p s f = f
 fine-add l final p s f = f
 
--- ---- texts
+-- ---- texts: what every line keeps is so of all that is accepted, beside the limits, which are judged after each line
+
+module _ (P : Reading → Type 0) (keeps : (l : List ℕ) (st : Statement) (u : List ℕ) (q : Reading) → statement l ≡ got st u → P q → P (add l st q)) where
+  abbrev Stands : Reading → Type 0
+  Stands q = P q × (fits (q .program) ≡ true)
+
+  abbrev Answers : Answer → Type 0
+  Answers (accepted p t) = Stands (record { program = p; text = t })
+  Answers (refused c m) = Unit {0}
+
+  answers-pick : (b : Bool) (x y : Answer) → (b ≡ true → Answers x) → Answers y → Answers (pick b x y)
+  answers-pick true x y f g = f refl
+  answers-pick false x y f g = g
+
+  goes-keeps : (n : ℕ) (ls : List (List ℕ)) (q : Reading) (go : Reading → Answer) → P q → ((r : Reading) → Stands r → Answers (go r)) → Answers (judged n ls (goes q) go)
+  goes-keeps n [] q go h f = tt
+  goes-keeps n (m ∷ ms) q go h f = answers-pick (fits (q .program)) (go q) (refused 5 n) (λ e. f q (h, e)) tt
+
+  last-keeps : (n : ℕ) (ls : List (List ℕ)) (q : Reading) (go : Reading → Answer) → Stands q → Answers (judged n ls (last q) go)
+  last-keeps n [] q go h = tt
+  last-keeps n (m ∷ ms) q go h = answers-pick (nothing (m ∷ ms)) (accepted (q .program) (q .text)) (refused 2 (n + 1)) (λ e. h) tt
+
+  line-keeps : (n : ℕ) (l : List ℕ) (q : Reading) (ls : List (List ℕ)) (x : Read Statement) (go : Reading → Answer) → statement l ≡ x → Stands q → ((r : Reading) → Stands r → Answers (go r))
+      → Answers (judged n ls (led l q x) go)
+  line-keeps n l q ls (bad c) go e h f = tt
+  line-keeps n l q ls (got (rule r) u) go e h f = goes-keeps n ls (add l (rule r) q) go (keeps l (rule r) u q e (h .0)) f
+  line-keeps n l q ls (got (minimise k es) u) go e h f = goes-keeps n ls (add l (minimise k es) q) go (keeps l (minimise k es) u q e (h .0)) f
+  line-keeps n l q ls (got (symbol y) u) go e h f = goes-keeps n ls (add l (symbol y) q) go (keeps l (symbol y) u q e (h .0)) f
+  line-keeps n l q ls (got comment u) go e h f = goes-keeps n ls q go (h .0) f
+  line-keeps n l q ls (got final u) go e h f = last-keeps n ls (add l final q) go (keeps l final u q e (h .0), h .1)
+
+  lines-keep : (n : ℕ) (q : Reading) (ls : List (List ℕ)) → Stands q → Answers (lines n q ls)
+  unfolding lines stepped
+  lines-keep n q [] h = tt
+  lines-keep n q (l ∷ ls) h = line-keeps n l q ls (statement l) (λ (r : Reading). lines (n + 1) r ls) refl h (λ r g. lines-keep (n + 1) r ls g)
+
+  headed-keeps : (ls : List (List ℕ)) → Stands opened → Answers (headed ls)
+  headed-keeps [] h = tt
+  headed-keeps (l ∷ []) h = answers-pick (same l header) (refused 2 1) (refused 1 1) (λ e. tt) tt
+  headed-keeps (l ∷ m ∷ ms) h = answers-pick (same l header) (lines 2 opened (m ∷ ms)) (refused 1 1) (λ e. lines-keep 2 opened (m ∷ ms) h) tt
+
+  pub text-keeps : (s : List ℕ) → P opened → Answers (textOf s)
+  unfolding textOf fits sum
+  text-keeps s h = answers-pick (ltb 65536 (length s)) (refused 5 0) (headed (pieces s)) (λ e. tt) (headed-keeps (pieces s) (h, refl))
+
+  pub accepted-keeps : (s : List ℕ) (p : Program) (t : List ℕ) → P opened → textOf s ≡ accepted p t → P (record { program = p; text = t }) × (fits p ≡ true)
+  accepted-keeps s p t h e = rw e at (text-keeps s h)
+
+-- ---- the law
 
 pub record Good (p : Program) : Type 0 where
   pub fine : Fine p
   pub fit : fits p ≡ true
 
-abbrev Answers : Answer → Type 0
-Answers (accepted p t) = Good p
-Answers (refused c m) = Unit {0}
+fine-line : (l : List ℕ) (st : Statement) (u : List ℕ) (q : Reading) → statement l ≡ got st u → Fine (q .program) → Fine (add l st q .program)
+fine-line l st u q e = fine-add l st q (rw e at (statement-reads l))
 
-answers-pick : (b : Bool) (x y : Answer) → (b ≡ true → Answers x) → Answers y → Answers (pick b x y)
-answers-pick true x y f g = f refl
-answers-pick false x y f g = g
-
-judged-good : (n : ℕ) (l : List ℕ) (p : Reading) (ls : List (List ℕ)) (x : Read Statement) (go : Reading → Answer) → Reads StatementIn x → Good (p .program) → ((q : Reading) → Good (q .program) → Answers (go q))
-    → Answers (judged n ls (led l p x) go)
-judged-good n l p ls (bad c) go s g f = tt
-judged-good n l p [] (got (rule r) u) go s g f = tt
-judged-good n l p [] (got (minimise q es) u) go s g f = tt
-judged-good n l p [] (got (symbol y) u) go s g f = tt
-judged-good n l p [] (got comment u) go s g f = tt
-judged-good n l p [] (got final u) go s g f = tt
-judged-good n l p (m ∷ ms) (got (rule r) u) go s g f = let q = add l (rule r) p in answers-pick (fits (q .program)) (go q) (refused 5 n) (λ e. f q (record { fine = fine-add l (rule r) p s (g .fine); fit = e })) tt
-judged-good n l p (m ∷ ms) (got (minimise k es) u) go s g f = let q = add l (minimise k es) p in answers-pick (fits (q .program)) (go q) (refused 5 n) (λ e. f q (record { fine = fine-add l (minimise k es) p s (g .fine); fit = e })) tt
-judged-good n l p (m ∷ ms) (got (symbol y) u) go s g f = let q = add l (symbol y) p in answers-pick (fits (q .program)) (go q) (refused 5 n) (λ e. f q (record { fine = fine-add l (symbol y) p s (g .fine); fit = e })) tt
-judged-good n l p (m ∷ ms) (got comment u) go s g f = answers-pick (fits (p .program)) (go p) (refused 5 n) (λ e. f p g) tt
-judged-good n l p (m ∷ ms) (got final u) go s g f = answers-pick (nothing (m ∷ ms)) (accepted (p .program) (add l final p .text)) (refused 2 (n + 1)) (λ e. g) tt
-
-lines-good : (n : ℕ) (p : Reading) (ls : List (List ℕ)) → Good (p .program) → Answers (lines n p ls)
-unfolding lines stepped
-lines-good n p [] g = tt
-lines-good n p (l ∷ ls) g = judged-good n l p ls (statement l) (λ (q : Reading). lines (n + 1) q ls) (statement-reads l) g (λ q h. lines-good (n + 1) q ls h)
-
-none-good : Good none
-unfolding fits sum
-none-good = record { fine = record { atoms = record { rules = tt; entries = tt; symbols = tt }; weights = tt; down = tt }; fit = refl }
-
-headed-good : (ls : List (List ℕ)) → Answers (headed ls)
-headed-good [] = tt
-headed-good (l ∷ []) = answers-pick (same l header) (refused 2 1) (refused 1 1) (λ e. tt) tt
-headed-good (l ∷ m ∷ ms) = answers-pick (same l header) (lines 2 opened (m ∷ ms)) (refused 1 1) (λ e. lines-good 2 opened (m ∷ ms) none-good) tt
-
-text-good : (s : List ℕ) → Answers (textOf s)
-unfolding textOf
-text-good s = answers-pick (ltb 65536 (length s)) (refused 5 0) (headed (pieces s)) (λ e. tt) (headed-good (pieces s))
-
--- the law
 pub accepted-good : (s : List ℕ) (p : Program) (t : List ℕ) → textOf s ≡ accepted p t → Good p
-accepted-good s p t e = rw e at (text-good s)
+accepted-good s p t e =
+    let none-fine : Fine none = record { atoms = record { rules = tt; entries = tt; symbols = tt }; weights = tt; down = tt } in
+    let h = accepted-keeps (λ (q : Reading). Fine (q .program)) fine-line s p t none-fine e in
+    record { fine = h .0; fit = h .1 }

@@ -6,6 +6,7 @@ pub mod Onwards
 pub mod Texts
 pub mod Writes
 pub mod Accepted
+pub mod Names
 pub mod RoundTrip
 pub mod Laws
 pub mod Loads
