@@ -10,5 +10,6 @@ pub mod Names
 pub mod RoundTrip
 pub mod Laws
 pub mod Loads
+pub mod Witness
 pub mod Samples
 pub mod Uses

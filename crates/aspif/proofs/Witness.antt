@@ -1,0 +1,344 @@
+-- Every accepted text has well-formed tables that hold its program and its text: they are built from these two. Assumes nothing.
+use mathlib.Core.Path.{_≡_, refl, sym, ap, _∙_, subst}
+use mathlib.Core.Bool.{Bool, true, false}
+use mathlib.Core.List.{List, [], _∷_, _++_, map, append-assoc}
+use Prim.Native.Nat.{ℕ, zero, suc, _+_, _-_, _*_, _≤_, _<_}
+use native.Mathlib.Omega.{arith}
+use lib.IntN.{ℤ, pos}
+use lib.ListN.{length, getD, replicate, length-append, length-replicate}
+use lib.Seq.{getD-append-add}
+use Rattle.asp.specs.Program.{Body, normal, Head, constraint, plain, choice, Rule, Entry, Symbol, Program, atoms, All, RuleIn, ProgramIn}
+use Rattle.asp.specs.Tables.{span, literalsAt, named, atomsAt, Row, rowAt, headAt, bodyAt, ruleAt, rulesOf, RowIn, entryAt, entriesOf, symbolAt, symbolsOf}
+use Rattle.asp.proofs.Spans.{span-at}
+use Rattle.aspif_lines.specs.Text.{sum, headSize, bodySize, ruleSize, conditionSize, nameSize, fits, textOf, accepted}
+use Rattle.aspif_lines.specs.Seen.{bytesAt}
+use Rattle.aspif_lines.proofs.Spans.{append-nil, span-shift, span-map}
+use Rattle.aspif_lines.proofs.Heads.{length-map}
+use Rattle.aspif.specs.Store.{Descending, Within, listsOf, Sized, storedProgram, storedText, WellFormed}
+use Rattle.aspif.specs.declared.table.Counts.{Counts}
+use Rattle.aspif.specs.declared.text.Stored.{Stored}
+use Rattle.aspif.proofs.Onwards.{limits-within}
+use Rattle.aspif.proofs.Accepted.{Good, accepted-good}
+use Rattle.aspif.proofs.Names.{Part, names-in}
+use Rattle.aspif.proofs.RoundTrip.{stored-short, accepted-short}
+use Rattle.aspif.proofs.Loads.{atoms-bound, program-in}
+
+-- ---- a list at the front of a table
+
+-- the values at the places from 0 on are xs, where each place after the first is a place of the rest
+fronts : {A : Type 0} (f : List A → ℕ → A) → ((x : A) (xs : List A) → f (x ∷ xs) 0 ≡ x) → ((x : A) (xs : List A) (j : ℕ) → f (x ∷ xs) (suc j) ≡ f xs j)
+    → (xs : List A) → span (f xs) 0 (length xs) ≡ xs
+unfolding span
+fronts f h t [] = refl
+fronts f h t (x ∷ xs) =
+    let rest : span (f (x ∷ xs)) 1 (length xs) ≡ span (f xs) 0 (length xs) =
+    span-shift (f (x ∷ xs)) (f xs) 1 0 (length xs) (λ j l. let p : 1 + j ≡ suc j = omega arith in let q : 0 + j ≡ j = omega arith in rw (p, q) (t x xs j)) in
+    rw (h x xs, rest, fronts f h t xs)
+
+list-front : {A : Type 0} (d : A) (xs zs : List A) → span (λ (j : ℕ). getD (xs ++ zs) j d) 0 (length xs) ≡ xs
+list-front d xs zs = fronts (λ ys j. getD (ys ++ zs) j d) (λ y ys. refl) (λ y ys j. refl) xs
+
+-- a list in the midst of a table
+list-at : {A : Type 0} (d : A) (xs ys zs : List A) → span (λ (j : ℕ). getD (xs ++ (ys ++ zs)) j d) (length xs) (length ys) ≡ ys
+list-at d xs ys zs =
+    span-shift (λ (j : ℕ). getD (xs ++ (ys ++ zs)) j d) (λ (j : ℕ). getD (ys ++ zs) j d) (length xs) 0 (length ys)
+    (λ j l. let q : 0 + j ≡ j = omega arith in rw q (getD-append-add xs (ys ++ zs) j d)) ∙ list-front d ys zs
+
+entries-front : (es : List Entry) (ps ls : List ℤ) (ws : List ℕ)
+    → entriesOf (map (λ (e : Entry). e .priority) es ++ ps) (map (λ (e : Entry). e .literal) es ++ ls) (map (λ (e : Entry). e .weight) es ++ ws) (length es) ≡ es
+entries-front es ps ls ws =
+    fronts (λ es j. entryAt (map (λ (e : Entry). e .priority) es ++ ps) (map (λ (e : Entry). e .literal) es ++ ls) (map (λ (e : Entry). e .weight) es ++ ws) j)
+    (λ e es. refl) (λ e es j. refl) es
+
+-- the table of n places with xs at its front
+abbrev padded : {A : Type 0} → A → ℕ → List A → List A
+padded d n xs = xs ++ replicate (n - length xs) d
+
+padded-length : {A : Type 0} (d : A) (n : ℕ) (xs : List A) → length xs ≤ n → length (padded d n xs) ≡ n
+padded-length d n xs h = omega (arith, length-append xs (replicate (n - length xs) d), length-replicate (n - length xs) d)
+
+-- ---- lists laid one after the other
+
+unfoldable laid : {A B : Type 0} → (A → List B) → List A → List B
+laid f [] = []
+laid f (x ∷ xs) = f x ++ laid f xs
+
+laid-length : {A B : Type 0} (f : A → List B) (size : A → ℕ) → ((x : A) → length (f x) ≡ size x) → (xs : List A) → length (laid f xs) ≡ sum size xs
+unfolding laid sum
+laid-length f size h [] = refl
+laid-length f size h (x ∷ xs) = omega (arith, length-append (f x) (laid f xs), h x, laid-length f size h xs)
+
+-- the numbers of a row, and the rows that they are
+abbrev four : Row → List ℕ
+four r = r .a ∷ r .b ∷ r .c ∷ r .d ∷ []
+
+rows-length : (rs : List Row) → length (laid four rs) ≡ length rs * 4
+unfolding laid
+rows-length [] = refl
+rows-length (r ∷ rs) = omega (arith, rows-length rs)
+
+row-next : (r : Row) (t : List ℕ) (j : ℕ) → rowAt (four r ++ t) (suc j) ≡ rowAt t j
+row-next r t j =
+    let a : suc j * 4 ≡ suc (suc (suc (suc (j * 4)))) = omega arith in
+    let b : suc j * 4 + 1 ≡ suc (suc (suc (suc (j * 4 + 1)))) = omega arith in
+    let c : suc j * 4 + 2 ≡ suc (suc (suc (suc (j * 4 + 2)))) = omega arith in
+    let d : suc j * 4 + 3 ≡ suc (suc (suc (suc (j * 4 + 3)))) = omega arith in
+    rw (b, c, d, a)
+
+rows-front : (rs : List Row) (t : List ℕ) → span (rowAt (laid four rs ++ t)) 0 (length rs) ≡ rs
+unfolding laid
+rows-front rs t = fronts (λ rs j. rowAt (laid four rs ++ t) j) (λ r rs. refl) (λ r rs j. row-next r (laid four rs ++ t) j) rs
+
+-- ---- a pool of items laid one after the other, and a row for each that says where it lies
+
+module _ {A : Type 0} (P : A → Type 0) (lay : A → List ℤ) (row : ℕ → (x : A) → P x → Row) where
+  unfoldable rows : ℕ → (xs : List A) → All P xs → List Row
+  rows i [] h = []
+  rows i (x ∷ xs) h = row i x (h .0) ∷ rows (i + length (lay x)) xs (h .1)
+
+  rows-count : (i : ℕ) (xs : List A) (h : All P xs) → length (rows i xs h) ≡ length xs
+  unfolding rows
+  rows-count i [] h = refl
+  rows-count i (x ∷ xs) h = ap suc (rows-count (i + length (lay x)) xs (h .1))
+
+  -- what is so of every row of an item that ends by n
+  rows-all : (Q : Row → Type 0) (n : ℕ) → ((i : ℕ) (x : A) (p : P x) → i + length (lay x) ≤ n → Q (row i x p)) → (i : ℕ) (xs : List A) (h : All P xs) → i + length (laid lay xs) ≤ n → All Q (rows i xs h)
+  unfolding rows laid
+  rows-all Q n f i [] h l = tt
+  rows-all Q n f i (x ∷ xs) h l =
+      (f i x (h .0) (omega (arith, length-append (lay x) (laid lay xs))), rows-all Q n f (i + length (lay x)) xs (h .1) (omega (arith, length-append (lay x) (laid lay xs))))
+
+  -- the items come back, where each comes back by its row
+  rows-back : (at : List ℤ → Row → A) → ((xs : List ℤ) (x : A) (zs : List ℤ) (p : P x) → at (xs ++ (lay x ++ zs)) (row (length xs) x p) ≡ x)
+      → (before : List ℤ) (xs : List A) (after : List ℤ) (h : All P xs) → map (at (before ++ (laid lay xs ++ after))) (rows (length before) xs h) ≡ xs
+  unfolding rows laid
+  rows-back at f before [] after h = refl
+  rows-back at f before (x ∷ xs) after h =
+      let e : before ++ ((lay x ++ laid lay xs) ++ after) ≡ before ++ (lay x ++ (laid lay xs ++ after)) = rw (append-assoc (lay x) (laid lay xs) after) in
+      let d : (before ++ lay x) ++ (laid lay xs ++ after) ≡ before ++ (lay x ++ (laid lay xs ++ after)) = append-assoc before (lay x) (laid lay xs ++ after) in
+      let r = rows-back at f (before ++ lay x) xs after (h .1) in
+      rw (e, f before x (laid lay xs ++ after) (h .0)) (ap (λ (ys : List A). x ∷ ys) (rw (length-append before (lay x), d) at r))
+
+  -- the table of n numbers with these rows at its front
+  module _ (n : ℕ) (xs : List A) (h : All P xs) where
+    abbrev table : List ℕ
+    table = padded 0 n (laid four (rows 0 xs h))
+
+    table-length : length xs * 4 ≤ n → length table ≡ n
+    table-length l = padded-length 0 n (laid four (rows 0 xs h)) (omega (arith, rows-length (rows 0 xs h), rows-count 0 xs h))
+
+    table-rows : span (rowAt table) 0 (length xs) ≡ rows 0 xs h
+    table-rows = rw (← rows-count 0 xs h) (rows-front (rows 0 xs h) _)
+
+    table-all : (Q : Row → Type 0) (e : ℕ) → ((i : ℕ) (x : A) (p : P x) → i + length (lay x) ≤ e → Q (row i x p)) → length (laid lay xs) ≤ e → (j : ℕ) → j < length xs → Q (rowAt table j)
+    table-all Q e f l j b = span-at (rowAt table) Q 0 (length xs) (subst (All Q) (sym table-rows) (rows-all Q e f 0 xs h (omega arith))) j (omega arith) (omega arith)
+
+    table-back : (at : List ℤ → Row → A) → ((ys : List ℤ) (x : A) (zs : List ℤ) (p : P x) → at (ys ++ (lay x ++ zs)) (row (length ys) x p) ≡ x)
+        → (zs : List ℤ) → span (λ (j : ℕ). at (laid lay xs ++ zs) (rowAt table j)) 0 (length xs) ≡ xs
+    table-back at f zs = sym (span-map (at (laid lay xs ++ zs)) (rowAt table) 0 (length xs)) ∙ ap (map (at (laid lay xs ++ zs))) table-rows ∙ rows-back at f [] xs zs h
+
+-- ---- rules: the head's atoms, then the body
+
+abbrev headList : Head → List ℕ
+headList constraint = []
+headList (plain a) = a ∷ []
+headList (choice hs) = hs
+
+abbrev isChoice : Head → ℕ
+isChoice constraint = 0
+isChoice (plain a) = 0
+isChoice (choice hs) = 1
+
+abbrev bodyList : Body → List ℤ
+bodyList (normal ls) = ls
+
+abbrev ruleLaid : Rule → List ℤ
+ruleLaid r = map pos (headList (r .head)) ++ bodyList (r .body)
+
+abbrev ruleRow : ℕ → (r : Rule) → RuleIn 1024 r → Row
+ruleRow i r p = record { a = isChoice (r .head); b = i; c = length (headList (r .head)); d = length (bodyList (r .body)) }
+
+head-length : (h : Head) → length (headList h) ≡ headSize h
+head-length constraint = refl
+head-length (plain a) = refl
+head-length (choice hs) = refl
+
+body-length : (b : Body) → length (bodyList b) ≡ bodySize b
+body-length (normal ls) = refl
+
+laid-sizes : (r : Rule) → length (ruleLaid r) ≡ length (headList (r .head)) + length (bodyList (r .body))
+laid-sizes r = omega (arith, length-append (map pos (headList (r .head))) (bodyList (r .body)), length-map pos (headList (r .head)))
+
+rule-length : (r : Rule) → length (ruleLaid r) ≡ ruleSize r
+rule-length r = omega (arith, laid-sizes r, head-length (r .head), body-length (r .body))
+
+-- a plain head has one atom at most
+head-single : (h : Head) → (isChoice h ≡ 1 → ⊥) → length (headList h) ≤ 1
+head-single constraint n = omega arith
+head-single (plain a) n = omega arith
+head-single (choice hs) n = absurd (n refl)
+
+named-pos : (hs : List ℕ) → map named (map pos hs) ≡ hs
+named-pos [] = refl
+named-pos (h ∷ hs) = ap (λ (t : List ℕ). h ∷ t) (named-pos hs)
+
+atoms-at : (xs : List ℤ) (hs : List ℕ) (zs : List ℤ) → atomsAt (xs ++ (map pos hs ++ zs)) (length xs) (length hs) ≡ hs
+atoms-at xs hs zs =
+    let ls : literalsAt (xs ++ (map pos hs ++ zs)) (length xs) (length hs) ≡ map pos hs = rw (length-map pos hs) at (list-at (pos 0) xs (map pos hs) zs) in
+    sym (span-map named (λ (j : ℕ). getD (xs ++ (map pos hs ++ zs)) j (pos 0)) (length xs) (length hs)) ∙ ap (map named) ls ∙ named-pos hs
+
+head-back : (h : Head) (xs zs : List ℤ) (d : ℕ) → headAt (xs ++ (map pos (headList h) ++ zs)) (record { a = isChoice h; b = length xs; c = length (headList h); d = d }) ≡ h
+head-back constraint xs zs d = rw (atoms-at xs [] zs)
+head-back (plain a) xs zs d = rw (atoms-at xs (a ∷ []) zs)
+head-back (choice hs) xs zs d = rw (atoms-at xs hs zs)
+
+body-back : (b : Body) (xs hs zs : List ℤ) → normal (literalsAt (xs ++ (hs ++ (bodyList b ++ zs))) (length xs + length hs) (length (bodyList b))) ≡ b
+body-back (normal ls) xs hs zs = rw (← append-assoc xs hs (ls ++ zs), ← length-append xs hs, list-at (pos 0) (xs ++ hs) ls zs)
+
+rule-back : (xs : List ℤ) (r : Rule) (zs : List ℤ) (p : RuleIn 1024 r) → ruleAt (xs ++ (ruleLaid r ++ zs)) (ruleRow (length xs) r p) ≡ r
+rule-back xs r zs p =
+    let hs : List ℤ = map pos (headList (r .head)) in
+    let ls : List ℤ = bodyList (r .body) in
+    let b = rw (length-map pos (headList (r .head))) at (body-back (r .body) xs hs zs) in
+    rw (append-assoc hs ls zs, head-back (r .head) xs (ls ++ zs) (length ls), b)
+
+-- ---- symbols: where the name lies in the text w, and the condition
+
+abbrev conditionLaid : Symbol → List ℤ
+conditionLaid y = y .condition
+
+module _ (w : List ℕ) where
+  abbrev NameIn : Symbol → Type 0
+  NameIn y = Part (y .name) w
+
+  abbrev symbolRow : ℕ → (y : Symbol) → NameIn y → Row
+  symbolRow i y p = record { a = length (p .before); b = length (y .name); c = i; d = length (y .condition) }
+
+  name-inside : (y : Symbol) (p : NameIn y) → length (p .before) + length (y .name) ≤ length w
+  name-inside y p = omega (arith, ap length (p .is), length-append (p .before) (y .name ++ p .after), length-append (y .name) (p .after))
+
+  name-back : (y : Symbol) (p : NameIn y) (t : List ℕ) → bytesAt (w ++ t) (length (p .before)) (length (y .name)) ≡ y .name
+  name-back y p t =
+      let e : w ++ t ≡ p .before ++ (y .name ++ (p .after ++ t)) =
+      ap (λ (v : List ℕ). v ++ t) (p .is) ∙ append-assoc (p .before) (y .name ++ p .after) t ∙ rw (append-assoc (y .name) (p .after) t) in
+      rw e (list-at 0 (p .before) (y .name) (p .after ++ t))
+
+  symbol-back : (t : List ℕ) (xs : List ℤ) (y : Symbol) (zs : List ℤ) (p : NameIn y) → symbolAt (w ++ t) (xs ++ (y .condition ++ zs)) (symbolRow (length xs) y p) ≡ y
+  symbol-back t xs y zs p = rw (name-back y p t, list-at (pos 0) xs (y .condition) zs)
+
+-- ---- the tables of a program P and its text w
+
+module _ (P : Program) (w : List ℕ) (good : Good P) (short : length w ≤ 65536) (names : All (NameIn w) (P .symbols)) where
+  abbrev inside : All (RuleIn 1024) (P .rules)
+  inside = good .fine .atoms .rules
+
+  abbrev counts : Counts
+  counts =
+      record {
+        rules = length (P .rules);
+        used = sum ruleSize (P .rules);
+        entries = length (P .entries);
+        levels = length (P .priorities);
+        symbols = length (P .symbols);
+        conditions = sum conditionSize (P .symbols);
+        names = sum nameSize (P .symbols);
+        text = length w;
+        atoms = atoms P;
+      }
+
+  abbrev witness : Stored
+  witness =
+      record {
+        text = padded 0 65537 w;
+        pool = padded (pos 0) 18432 (laid ruleLaid (P .rules));
+        rules = table (RuleIn 1024) ruleLaid ruleRow 8196 (P .rules) inside;
+        priorities = padded (pos 0) 1536 (map (λ (e : Entry). e .priority) (P .entries));
+        literals = padded (pos 0) 1536 (map (λ (e : Entry). e .literal) (P .entries));
+        weights = padded 0 1536 (map (λ (e : Entry). e .weight) (P .entries));
+        levels = padded (pos 0) 9 (P .priorities);
+        conditions = padded (pos 0) 3072 (laid conditionLaid (P .symbols));
+        symbols = table (NameIn w) conditionLaid (symbolRow w) 2052 (P .symbols) names;
+        counts = counts;
+      }
+
+  witness-text : storedText witness ≡ w
+  witness-text = list-front 0 w _
+
+  rules-is : storedProgram witness .rules ≡ P .rules
+  rules-is = table-back (RuleIn 1024) ruleLaid ruleRow 8196 (P .rules) inside ruleAt rule-back _
+
+  levels-is : storedProgram witness .priorities ≡ P .priorities
+  levels-is = list-front (pos 0) (P .priorities) _
+
+  entries-is : storedProgram witness .entries ≡ P .entries
+  entries-is = entries-front (P .entries) _ _ _
+
+  symbols-is : storedProgram witness .symbols ≡ P .symbols
+  symbols-is = table-back (NameIn w) conditionLaid (symbolRow w) 2052 (P .symbols) names (symbolAt (witness .text)) (symbol-back w _) _
+
+  witness-program : storedProgram witness ≡ P
+  witness-program = rw (rules-is, levels-is, entries-is, symbols-is)
+
+  within : Within counts
+  unfolding fits
+  within = limits-within counts (good .fit)
+
+  pool-used : length (laid ruleLaid (P .rules)) ≡ sum ruleSize (P .rules)
+  pool-used = laid-length ruleLaid ruleSize rule-length (P .rules)
+
+  conditions-used : length (laid conditionLaid (P .symbols)) ≡ sum conditionSize (P .symbols)
+  conditions-used = laid-length conditionLaid conditionSize (λ y. refl) (P .symbols)
+
+  entry-table : {A : Type 0} (d : A) (f : Entry → A) → length (padded d 1536 (map f (P .entries))) ≡ 1536
+  entry-table d f = padded-length d 1536 (map f (P .entries)) (omega (arith, length-map f (P .entries), within .entries))
+
+  sized : Sized (listsOf witness)
+  sized =
+      record {
+        text = padded-length 0 65537 w (omega arith);
+        pool = padded-length (pos 0) 18432 (laid ruleLaid (P .rules)) (omega (arith, pool-used, within .used));
+        rules = table-length (RuleIn 1024) ruleLaid ruleRow 8196 (P .rules) inside (omega (arith, within .rules));
+        priorities = entry-table (pos 0) (λ (e : Entry). e .priority);
+        literals = entry-table (pos 0) (λ (e : Entry). e .literal);
+        weights = entry-table 0 (λ (e : Entry). e .weight);
+        levels = padded-length (pos 0) 9 (P .priorities) (omega (arith, within .levels));
+        conditions = padded-length (pos 0) 3072 (laid conditionLaid (P .symbols)) (omega (arith, conditions-used, within .conditions));
+        symbols = table-length (NameIn w) conditionLaid (symbolRow w) 2052 (P .symbols) names (omega (arith, within .symbols));
+      }
+
+  row-in : (j : ℕ) → j < length (P .rules) → RowIn (witness .pool) (rowAt (witness .rules) j)
+  row-in =
+      table-all (RuleIn 1024) ruleLaid ruleRow 8196 (P .rules) inside (RowIn (witness .pool)) (length (witness .pool))
+      (λ i r p l. record { inside = omega (arith, laid-sizes r); single = head-single (r .head) }) (omega (arith, sized .pool, pool-used, within .used))
+
+  abbrev SymbolIn : Row → Type 0
+  SymbolIn r = (r .a + r .b ≤ length w) × (r .c + r .d ≤ sum conditionSize (P .symbols))
+
+  symbol-in : (j : ℕ) → j < length (P .symbols) → SymbolIn (rowAt (witness .symbols) j)
+  symbol-in = table-all (NameIn w) conditionLaid (symbolRow w) 2052 (P .symbols) names SymbolIn (sum conditionSize (P .symbols)) (λ i y p l. (name-inside w y p, l)) (omega (arith, conditions-used))
+
+  named-in : ProgramIn (atoms P) (storedProgram witness)
+  named-in = subst (ProgramIn (atoms P)) (sym witness-program) (program-in P (good .fine .atoms))
+
+  witness-formed : WellFormed witness
+  witness-formed =
+      record {
+        sized = sized;
+        within = within;
+        text = short;
+        size = omega (arith, ap (λ (q : Program). sum ruleSize (q .rules)) witness-program, within .used);
+        atoms = ap atoms (sym witness-program);
+        formed = record { few = atoms-bound P (good .fine .atoms); long = omega (arith, within .rules, sized .rules); row = row-in; atoms = named-in .rules };
+        named = named-in;
+        weights = subst (λ (q : Program). All (λ (e : Entry). e .weight ≤ 1000000) (q .entries)) (sym witness-program) (good .fine .weights);
+        levels = subst (λ (q : Program). Descending (q .priorities)) (sym witness-program) (good .fine .down);
+        symbols = symbol-in;
+      }
+
+-- THE law: what a load of an accepted text has to store is there
+pub accepted-stored : (s : List ℕ) (P : Program) (w : List ℕ) → textOf s ≡ accepted P w → (p : Stored) × WellFormed p × (storedProgram p ≡ P) × (storedText p ≡ w)
+accepted-stored s P w e =
+    let good = accepted-good s P w e in
+    let short : length w ≤ 65536 = omega (arith, stored-short s P w e, accepted-short s P w e) in
+    let names = names-in s P w e in
+    (witness P w good short names, witness-formed P w good short names, witness-program P w good short names, witness-text P w good short names)
