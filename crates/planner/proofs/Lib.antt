@@ -10,6 +10,7 @@ pub mod Symbols
 pub mod Together
 pub mod Kept
 pub mod Demand
+pub mod Inhabited
 pub mod Samples
 pub mod Alike
 pub mod Paths

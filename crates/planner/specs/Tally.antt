@@ -109,3 +109,7 @@ feed (shown i) a T = T
 abbrev pub Leads : List Call → Service → Tally → Service → Tally → Type 0
 Leads [] s T u U = (u ≡ s) × (U ≡ T)
 Leads (c ∷ cs) s T u U = (a : Reply c) × (r : Service) × Does c s a r × Leads cs r (feed c a T) u U
+
+-- every list of calls leads on from every service, so that a claim about all that lists lead to is about each of them
+abbrev pub Inhabited : Type 0
+Inhabited = (cs : List Call) (s : Service) (T : Tally) → (u : Service) × (U : Tally) × Leads cs s T u U
