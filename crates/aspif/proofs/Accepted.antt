@@ -11,7 +11,7 @@ use borrow.Author.Tests.{leb-true, eqb-false}
 use Rattle.asp.specs.Sets.{pick, In}
 use Rattle.asp.specs.Program.{Literal, normal, Head, constraint, plain, choice, Rule, Entry, Symbol, Program, All, LiteralIn, HeadIn, RuleIn, ProgramIn}
 use Rattle.asp.specs.Tables.{named, plainHead}
-use Rattle.aspif_lines.specs.Text.{both, within, Read, got, bad, bind, next, token, number, signed, field, natural, atom, literal, member, more, nil, ended, Opening, opening, bodyCount, headOf, ruleOf, ruleLine, pair, Minimise, minimiseLine, nameByte, symbolLine, Statement, rule, minimise, symbol, comment, final, ofKind, statement, Reading, add, addRule, addMinimise, addSymbol, insert, fits, nothing, isFinal, Step, stop, last, goes, led, stepped, judged, lines, same, header, none, opened, headed, pieces, sum, textOf, Answer, accepted, refused}
+use Rattle.aspif_lines.specs.Text.{both, within, Read, got, bad, bind, next, token, number, signed, field, natural, atom, literal, member, more, nil, ended, Opening, opening, bodyCount, headOf, ruleOf, ruleLine, pair, Minimise, minimiseLine, nameByte, symbolLine, Statement, rule, minimise, symbol, comment, final, ofKind, statement, Reading, add, addRule, addMinimise, addSymbol, insert, fits, nothing, last, goes, led, stepped, judged, lines, same, header, none, opened, headed, pieces, sum, textOf, Answer, accepted, refused}
 use Rattle.aspif.specs.Store.{Descending}
 use Rattle.aspif.proofs.Levels.{descending-insert}
 use Rattle.aspif_lines.proofs.Signs.{abs-neg}
@@ -246,7 +246,7 @@ module _ (P : Reading → Type 0) (keeps : (l : List ℕ) (st : Statement) (u : 
   headed-keeps (l ∷ []) h = answers-pick (same l header) (refused 2 1) (refused 1 1) (λ e. tt) tt
   headed-keeps (l ∷ m ∷ ms) h = answers-pick (same l header) (lines 2 opened (m ∷ ms)) (refused 1 1) (λ e. lines-keep 2 opened (m ∷ ms) h) tt
 
-  pub text-keeps : (s : List ℕ) → P opened → Answers (textOf s)
+  text-keeps : (s : List ℕ) → P opened → Answers (textOf s)
   unfolding textOf fits sum
   text-keeps s h = answers-pick (ltb 65536 (length s)) (refused 5 0) (headed (pieces s)) (λ e. tt) (headed-keeps (pieces s) (h, refl))
 

@@ -1,25 +1,24 @@
 -- Every accepted text has well-formed tables that hold its program and its text: they are built from these two. Assumes nothing.
 use mathlib.Core.Path.{_≡_, refl, sym, ap, _∙_, subst}
-use mathlib.Core.Bool.{Bool, true, false}
 use mathlib.Core.List.{List, [], _∷_, _++_, map, append-assoc}
-use Prim.Native.Nat.{ℕ, zero, suc, _+_, _-_, _*_, _≤_, _<_}
+use Prim.Native.Nat.{ℕ, suc, _+_, _-_, _*_, _≤_, _<_}
 use native.Mathlib.Omega.{arith}
 use lib.IntN.{ℤ, pos}
 use lib.ListN.{length, getD, replicate, length-append, length-replicate}
 use lib.Seq.{getD-append-add}
 use Rattle.asp.specs.Program.{Body, normal, Head, constraint, plain, choice, Rule, Entry, Symbol, Program, atoms, All, RuleIn, ProgramIn}
-use Rattle.asp.specs.Tables.{span, literalsAt, named, atomsAt, Row, rowAt, headAt, bodyAt, ruleAt, rulesOf, RowIn, entryAt, entriesOf, symbolAt, symbolsOf}
+use Rattle.asp.specs.Tables.{span, literalsAt, named, atomsAt, Row, rowAt, headAt, ruleAt, RowIn, entryAt, entriesOf, symbolAt}
 use Rattle.asp.proofs.Spans.{span-at}
 use Rattle.aspif_lines.specs.Text.{sum, headSize, bodySize, ruleSize, conditionSize, nameSize, fits, textOf, accepted}
 use Rattle.aspif_lines.specs.Seen.{bytesAt}
-use Rattle.aspif_lines.proofs.Spans.{append-nil, span-shift, span-map}
+use Rattle.aspif_lines.proofs.Spans.{span-shift, span-map}
 use Rattle.aspif_lines.proofs.Heads.{length-map}
 use Rattle.aspif.specs.Store.{Descending, Within, listsOf, Sized, storedProgram, storedText, WellFormed}
 use Rattle.aspif.specs.declared.table.Counts.{Counts}
 use Rattle.aspif.specs.declared.text.Stored.{Stored}
 use Rattle.aspif.proofs.Onwards.{limits-within}
 use Rattle.aspif.proofs.Accepted.{Good, accepted-good}
-use Rattle.aspif.proofs.Names.{Part, names-in}
+use Rattle.aspif.proofs.Names.{NameLies, names-in}
 use Rattle.aspif.proofs.RoundTrip.{stored-short, accepted-short}
 use Rattle.aspif.proofs.Loads.{atoms-bound, program-in}
 
@@ -35,6 +34,7 @@ fronts f h t (x ∷ xs) =
     span-shift (f (x ∷ xs)) (f xs) 1 0 (length xs) (λ j l. let p : 1 + j ≡ suc j = omega arith in let q : 0 + j ≡ j = omega arith in rw (p, q) (t x xs j)) in
     rw (h x xs, rest, fronts f h t xs)
 
+-- one list
 list-front : {A : Type 0} (d : A) (xs zs : List A) → span (λ (j : ℕ). getD (xs ++ zs) j d) 0 (length xs) ≡ xs
 list-front d xs zs = fronts (λ ys j. getD (ys ++ zs) j d) (λ y ys. refl) (λ y ys j. refl) xs
 
@@ -44,6 +44,7 @@ list-at d xs ys zs =
     span-shift (λ (j : ℕ). getD (xs ++ (ys ++ zs)) j d) (λ (j : ℕ). getD (ys ++ zs) j d) (length xs) 0 (length ys)
     (λ j l. let q : 0 + j ≡ j = omega arith in rw q (getD-append-add xs (ys ++ zs) j d)) ∙ list-front d ys zs
 
+-- the fields of entries, in three tables
 entries-front : (es : List Entry) (ps ls : List ℤ) (ws : List ℕ)
     → entriesOf (map (λ (e : Entry). e .priority) es ++ ps) (map (λ (e : Entry). e .literal) es ++ ls) (map (λ (e : Entry). e .weight) es ++ ws) (length es) ≡ es
 entries-front es ps ls ws =
@@ -68,7 +69,7 @@ unfolding laid sum
 laid-length f size h [] = refl
 laid-length f size h (x ∷ xs) = omega (arith, length-append (f x) (laid f xs), h x, laid-length f size h xs)
 
--- the numbers of a row, and the rows that they are
+-- the numbers of a row
 abbrev four : Row → List ℕ
 four r = r .a ∷ r .b ∷ r .c ∷ r .d ∷ []
 
@@ -77,6 +78,7 @@ unfolding laid
 rows-length [] = refl
 rows-length (r ∷ rs) = omega (arith, rows-length rs)
 
+-- the rows after the first
 row-next : (r : Row) (t : List ℕ) (j : ℕ) → rowAt (four r ++ t) (suc j) ≡ rowAt t j
 row-next r t j =
     let a : suc j * 4 ≡ suc (suc (suc (suc (j * 4)))) = omega arith in
@@ -96,6 +98,7 @@ module _ {A : Type 0} (P : A → Type 0) (lay : A → List ℤ) (row : ℕ → (
   rows i [] h = []
   rows i (x ∷ xs) h = row i x (h .0) ∷ rows (i + length (lay x)) xs (h .1)
 
+  -- as many rows as items
   rows-count : (i : ℕ) (xs : List A) (h : All P xs) → length (rows i xs h) ≡ length xs
   unfolding rows
   rows-count i [] h = refl
@@ -144,10 +147,11 @@ headList constraint = []
 headList (plain a) = a ∷ []
 headList (choice hs) = hs
 
-abbrev isChoice : Head → ℕ
-isChoice constraint = 0
-isChoice (plain a) = 0
-isChoice (choice hs) = 1
+-- 1 for a choice
+abbrev choiceMark : Head → ℕ
+choiceMark constraint = 0
+choiceMark (plain a) = 0
+choiceMark (choice hs) = 1
 
 abbrev bodyList : Body → List ℤ
 bodyList (normal ls) = ls
@@ -156,7 +160,7 @@ abbrev ruleLaid : Rule → List ℤ
 ruleLaid r = map pos (headList (r .head)) ++ bodyList (r .body)
 
 abbrev ruleRow : ℕ → (r : Rule) → RuleIn 1024 r → Row
-ruleRow i r p = record { a = isChoice (r .head); b = i; c = length (headList (r .head)); d = length (bodyList (r .body)) }
+ruleRow i r p = record { a = choiceMark (r .head); b = i; c = length (headList (r .head)); d = length (bodyList (r .body)) }
 
 head-length : (h : Head) → length (headList h) ≡ headSize h
 head-length constraint = refl
@@ -173,7 +177,7 @@ rule-length : (r : Rule) → length (ruleLaid r) ≡ ruleSize r
 rule-length r = omega (arith, laid-sizes r, head-length (r .head), body-length (r .body))
 
 -- a plain head has one atom at most
-head-single : (h : Head) → (isChoice h ≡ 1 → ⊥) → length (headList h) ≤ 1
+head-single : (h : Head) → (choiceMark h ≡ 1 → ⊥) → length (headList h) ≤ 1
 head-single constraint n = omega arith
 head-single (plain a) n = omega arith
 head-single (choice hs) n = absurd (n refl)
@@ -182,12 +186,13 @@ named-pos : (hs : List ℕ) → map named (map pos hs) ≡ hs
 named-pos [] = refl
 named-pos (h ∷ hs) = ap (λ (t : List ℕ). h ∷ t) (named-pos hs)
 
+-- head atoms and bodies come back
 atoms-at : (xs : List ℤ) (hs : List ℕ) (zs : List ℤ) → atomsAt (xs ++ (map pos hs ++ zs)) (length xs) (length hs) ≡ hs
 atoms-at xs hs zs =
     let ls : literalsAt (xs ++ (map pos hs ++ zs)) (length xs) (length hs) ≡ map pos hs = rw (length-map pos hs) at (list-at (pos 0) xs (map pos hs) zs) in
     sym (span-map named (λ (j : ℕ). getD (xs ++ (map pos hs ++ zs)) j (pos 0)) (length xs) (length hs)) ∙ ap (map named) ls ∙ named-pos hs
 
-head-back : (h : Head) (xs zs : List ℤ) (d : ℕ) → headAt (xs ++ (map pos (headList h) ++ zs)) (record { a = isChoice h; b = length xs; c = length (headList h); d = d }) ≡ h
+head-back : (h : Head) (xs zs : List ℤ) (d : ℕ) → headAt (xs ++ (map pos (headList h) ++ zs)) (record { a = choiceMark h; b = length xs; c = length (headList h); d = d }) ≡ h
 head-back constraint xs zs d = rw (atoms-at xs [] zs)
 head-back (plain a) xs zs d = rw (atoms-at xs (a ∷ []) zs)
 head-back (choice hs) xs zs d = rw (atoms-at xs hs zs)
@@ -208,29 +213,26 @@ abbrev conditionLaid : Symbol → List ℤ
 conditionLaid y = y .condition
 
 module _ (w : List ℕ) where
-  abbrev NameIn : Symbol → Type 0
-  NameIn y = Part (y .name) w
-
-  abbrev symbolRow : ℕ → (y : Symbol) → NameIn y → Row
+  abbrev symbolRow : ℕ → (y : Symbol) → NameLies w y → Row
   symbolRow i y p = record { a = length (p .before); b = length (y .name); c = i; d = length (y .condition) }
 
-  name-inside : (y : Symbol) (p : NameIn y) → length (p .before) + length (y .name) ≤ length w
+  name-inside : (y : Symbol) (p : NameLies w y) → length (p .before) + length (y .name) ≤ length w
   name-inside y p = omega (arith, ap length (p .is), length-append (p .before) (y .name ++ p .after), length-append (y .name) (p .after))
 
-  name-back : (y : Symbol) (p : NameIn y) (t : List ℕ) → bytesAt (w ++ t) (length (p .before)) (length (y .name)) ≡ y .name
+  name-back : (y : Symbol) (p : NameLies w y) (t : List ℕ) → bytesAt (w ++ t) (length (p .before)) (length (y .name)) ≡ y .name
   name-back y p t =
       let e : w ++ t ≡ p .before ++ (y .name ++ (p .after ++ t)) =
       ap (λ (v : List ℕ). v ++ t) (p .is) ∙ append-assoc (p .before) (y .name ++ p .after) t ∙ rw (append-assoc (y .name) (p .after) t) in
       rw e (list-at 0 (p .before) (y .name) (p .after ++ t))
 
-  symbol-back : (t : List ℕ) (xs : List ℤ) (y : Symbol) (zs : List ℤ) (p : NameIn y) → symbolAt (w ++ t) (xs ++ (y .condition ++ zs)) (symbolRow (length xs) y p) ≡ y
+  symbol-back : (t : List ℕ) (xs : List ℤ) (y : Symbol) (zs : List ℤ) (p : NameLies w y) → symbolAt (w ++ t) (xs ++ (y .condition ++ zs)) (symbolRow (length xs) y p) ≡ y
   symbol-back t xs y zs p = rw (name-back y p t, list-at (pos 0) xs (y .condition) zs)
 
 -- ---- the tables of a program P and its text w
 
-module _ (P : Program) (w : List ℕ) (good : Good P) (short : length w ≤ 65536) (names : All (NameIn w) (P .symbols)) where
-  abbrev inside : All (RuleIn 1024) (P .rules)
-  inside = good .fine .atoms .rules
+module _ (P : Program) (w : List ℕ) (good : Good P) (short : length w ≤ 65536) (names : All (NameLies w) (P .symbols)) where
+  abbrev atoms-in : All (RuleIn 1024) (P .rules)
+  atoms-in = good .fine .atoms .rules
 
   abbrev counts : Counts
   counts =
@@ -251,13 +253,13 @@ module _ (P : Program) (w : List ℕ) (good : Good P) (short : length w ≤ 6553
       record {
         text = padded 0 65537 w;
         pool = padded (pos 0) 18432 (laid ruleLaid (P .rules));
-        rules = table (RuleIn 1024) ruleLaid ruleRow 8196 (P .rules) inside;
+        rules = table (RuleIn 1024) ruleLaid ruleRow 8196 (P .rules) atoms-in;
         priorities = padded (pos 0) 1536 (map (λ (e : Entry). e .priority) (P .entries));
         literals = padded (pos 0) 1536 (map (λ (e : Entry). e .literal) (P .entries));
         weights = padded 0 1536 (map (λ (e : Entry). e .weight) (P .entries));
         levels = padded (pos 0) 9 (P .priorities);
         conditions = padded (pos 0) 3072 (laid conditionLaid (P .symbols));
-        symbols = table (NameIn w) conditionLaid (symbolRow w) 2052 (P .symbols) names;
+        symbols = table (NameLies w) conditionLaid (symbolRow w) 2052 (P .symbols) names;
         counts = counts;
       }
 
@@ -265,7 +267,7 @@ module _ (P : Program) (w : List ℕ) (good : Good P) (short : length w ≤ 6553
   witness-text = list-front 0 w _
 
   rules-is : storedProgram witness .rules ≡ P .rules
-  rules-is = table-back (RuleIn 1024) ruleLaid ruleRow 8196 (P .rules) inside ruleAt rule-back _
+  rules-is = table-back (RuleIn 1024) ruleLaid ruleRow 8196 (P .rules) atoms-in ruleAt rule-back _
 
   levels-is : storedProgram witness .priorities ≡ P .priorities
   levels-is = list-front (pos 0) (P .priorities) _
@@ -274,7 +276,7 @@ module _ (P : Program) (w : List ℕ) (good : Good P) (short : length w ≤ 6553
   entries-is = entries-front (P .entries) _ _ _
 
   symbols-is : storedProgram witness .symbols ≡ P .symbols
-  symbols-is = table-back (NameIn w) conditionLaid (symbolRow w) 2052 (P .symbols) names (symbolAt (witness .text)) (symbol-back w _) _
+  symbols-is = table-back (NameLies w) conditionLaid (symbolRow w) 2052 (P .symbols) names (symbolAt (witness .text)) (symbol-back w _) _
 
   witness-program : storedProgram witness ≡ P
   witness-program = rw (rules-is, levels-is, entries-is, symbols-is)
@@ -297,25 +299,25 @@ module _ (P : Program) (w : List ℕ) (good : Good P) (short : length w ≤ 6553
       record {
         text = padded-length 0 65537 w (omega arith);
         pool = padded-length (pos 0) 18432 (laid ruleLaid (P .rules)) (omega (arith, pool-used, within .used));
-        rules = table-length (RuleIn 1024) ruleLaid ruleRow 8196 (P .rules) inside (omega (arith, within .rules));
+        rules = table-length (RuleIn 1024) ruleLaid ruleRow 8196 (P .rules) atoms-in (omega (arith, within .rules));
         priorities = entry-table (pos 0) (λ (e : Entry). e .priority);
         literals = entry-table (pos 0) (λ (e : Entry). e .literal);
         weights = entry-table 0 (λ (e : Entry). e .weight);
         levels = padded-length (pos 0) 9 (P .priorities) (omega (arith, within .levels));
         conditions = padded-length (pos 0) 3072 (laid conditionLaid (P .symbols)) (omega (arith, conditions-used, within .conditions));
-        symbols = table-length (NameIn w) conditionLaid (symbolRow w) 2052 (P .symbols) names (omega (arith, within .symbols));
+        symbols = table-length (NameLies w) conditionLaid (symbolRow w) 2052 (P .symbols) names (omega (arith, within .symbols));
       }
 
   row-in : (j : ℕ) → j < length (P .rules) → RowIn (witness .pool) (rowAt (witness .rules) j)
   row-in =
-      table-all (RuleIn 1024) ruleLaid ruleRow 8196 (P .rules) inside (RowIn (witness .pool)) (length (witness .pool))
+      table-all (RuleIn 1024) ruleLaid ruleRow 8196 (P .rules) atoms-in (RowIn (witness .pool)) (length (witness .pool))
       (λ i r p l. record { inside = omega (arith, laid-sizes r); single = head-single (r .head) }) (omega (arith, sized .pool, pool-used, within .used))
 
   abbrev SymbolIn : Row → Type 0
   SymbolIn r = (r .a + r .b ≤ length w) × (r .c + r .d ≤ sum conditionSize (P .symbols))
 
   symbol-in : (j : ℕ) → j < length (P .symbols) → SymbolIn (rowAt (witness .symbols) j)
-  symbol-in = table-all (NameIn w) conditionLaid (symbolRow w) 2052 (P .symbols) names SymbolIn (sum conditionSize (P .symbols)) (λ i y p l. (name-inside w y p, l)) (omega (arith, conditions-used))
+  symbol-in = table-all (NameLies w) conditionLaid (symbolRow w) 2052 (P .symbols) names SymbolIn (sum conditionSize (P .symbols)) (λ i y p l. (name-inside w y p, l)) (omega (arith, conditions-used))
 
   named-in : ProgramIn (atoms P) (storedProgram witness)
   named-in = subst (ProgramIn (atoms P)) (sym witness-program) (program-in P (good .fine .atoms))

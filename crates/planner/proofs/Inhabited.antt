@@ -9,7 +9,7 @@ use Rattle.optimizer.specs.State.{freshSearch}
 use Rattle.planner.specs.declared.service.Service.{Service}
 use Rattle.planner.specs.Held.{service, freshService}
 use Rattle.planner.specs.Calls.{Loads, accepts, refusesAt, outcome, filling, AfterLoad, advanceCall, runCall, lookCall, writeCall, modelCall, nameCall, shownCall}
-use Rattle.planner.specs.Tally.{Call, load, clear, advance, run, look, write, model, name, shown, Reply, Does, Tally, feed, Leads, Inhabited}
+use Rattle.planner.specs.Tally.{Call, load, clear, advance, run, look, write, model, name, shown, Reply, Does, feed, Inhabited}
 
 does-load : (t : List ℕ) (x : Answer) → textOf t ≡ x → (s : Service) → (a : Loads) × (u : Service) × AfterLoad x s (outcome a u)
 does-load t (accepted P w) e s =
