@@ -8,6 +8,8 @@ machine of the service.
 """
 from itertools import product
 
+from branching import free_literal
+
 WISHES = MEMBERS = 4096
 
 
@@ -107,7 +109,7 @@ class Machine:
 
     def branch(self, path, assumed):
         """The complement of the first literal that would break a rule, rule by rule; else the literal that the first assumed wish of an entry with an undecided
-        atom wishes for; else the lowest undecided atom, negative."""
+        atom wishes for; else the lowest undecided atom, by tests/branching.py."""
         decided = {abs(l) for l in path}
         for rule in self.rules:
             free = {abs(l) for l in rule[1] + rule[2]} - decided if rule[0] == 0 else ()
@@ -120,7 +122,7 @@ class Machine:
         for i in assumed:
             if self.wishes[i][0] == 'entry' and abs(self.wishes[i][1]) not in decided:
                 return -self.wishes[i][1]
-        return -min(a for a in range(1, self.n + 1) if a not in decided)
+        return free_literal(min(a for a in range(1, self.n + 1) if a not in decided), self.rules)
 
     def blame(self, unmet):
         """"one of them is blamed, one already blamed before a new one" (the first of several)"""

@@ -5,6 +5,9 @@ Usage: python3 tests/random_steps.py [how many] [seed]"""
 import random, subprocess, sys
 from itertools import combinations
 import os
+
+from branching import free_literal
+
 here = os.path.dirname(os.path.abspath(__file__))
 
 def holds(m, l): return (l in m) if l > 0 else (-l not in m)
@@ -30,7 +33,7 @@ def trace(n, rules, wishes, steps):
                         if l is None and all(rule_broken(m, r) for m in now if holds(m, x)): l = -x
                 if l is not None: break
             if l is None: l = next((w for w in wishes if abs(w) not in decided), None)
-            if l is None: l = -min(a for a in range(1, n + 1) if a not in decided)
+            if l is None: l = free_literal(min(a for a in range(1, n + 1) if a not in decided), rules)
             path.append((l, True))
         out.append(' '.join('%d%s' % (l, '*' if f else '') for l, f in path))
     return out
