@@ -1,83 +1,11 @@
-/* The yardstick: document 01's machine in plain C, with the parts that it leaves free as DESIGN fixes them, so that it makes the same advances as `serve` and `plan`.
-   Written from those two papers, not from the code of the crates. It proves nothing, and reads only texts that `plan` accepts.
-   yardstick FILE [ADVANCES [TIMES]]: prints the status and the advances made, the bounds, and the ns for each advance of the run (without the reading), run so many times.
+/* The plain machine: every advance scans all rules, and a full path is judged by the closure from nothing. bench/machine.h has the rest.
    Build: cc -O2 bench/yardstick.c -o /tmp/yardstick. bench/compare runs it beside `serve`. */
-#include <stdint.h>
-#include <stdio.h>
-#include <stdlib.h>
-#include <string.h>
-#include <time.h>
+#include "machine.h"
 
-enum { ATOMS = 1024, RULES = 2048, POOL = 16384, ENTRIES = 512, LEVELS = 8, WISHES = 4096, MEMBERS = 4096 };
-enum status { RUNNING, OPTIMUM, INCOHERENT, FULL };
-
-/* The program. A rule's head atoms stand in the pool before its body. */
-static struct rule { int choice, start, heads, body; } rules[RULES];
-static struct entry { int priority, literal; uint32_t weight; } entries[ENTRIES];
-static int pool[POOL], priorities[LEVELS];
-static int n, rulecount, poolcount, entrycount, levelcount;
-
-/* The path: literals, whether each is a first one, the value of each atom: 0 undecided, 1 in, -1 out. */
-static int path[ATOMS], len;
-static char first[ATOMS];
-static signed char value[ATOMS + 1];
-
-/* The level in work, its wishes and cores. A wish for an entry has core -1 and the entry's literal, which must not hold; the i-th wish of a core has i. */
-static struct wish { int core, literal, i; uint32_t rest; } wishes[WISHES];
-static int members[MEMBERS], ends[MEMBERS + 1], wishcount, corecount, level = -1;
-static uint32_t stratum;
-static int assumed[WISHES], assumedcount;              /* by the question: all, */
-static int wished[WISHES], spots[WISHES], wishedcount; /* and those for entries, with the literals wished for */
-static char blamed[WISHES];
-static int core[WISHES], coresize;
-static int counts[MEMBERS], stamps[MEMBERS], stamp;    /* unmet members by core, kept for the set at hand */
-
-static enum status status;
-static uint64_t advances, lower[LEVELS], upper[LEVELS];
-static int have;
-
-static int truth(int l) { int v = value[l < 0 ? -l : l]; return l < 0 ? -v : v; }
-
-/* ---- reading */
-
-static char text[70000], *at;
-static long number(void) { return strtol(at, &at, 10); }
-static int atom(int l) { int a = abs(l); if (a > n) n = a; return l; }
-static void read_text(const char *file) {
-  FILE *f = fopen(file, "rb");
-  if (!f) { perror(file); exit(1); }
-  text[fread(text, 1, sizeof text - 1, f)] = 0;
-  fclose(f);
-  for (at = strchr(text, '\n') + 1;; at = strchr(at, '\n') + 1) {
-    switch (number()) {
-    case 0: goto done;
-    case 1: {
-      struct rule *r = &rules[rulecount++];
-      r->choice = (int)number(); r->heads = (int)number(); r->start = poolcount;
-      for (int i = 0; i < r->heads; i++) pool[poolcount++] = atom((int)number());
-      number(); r->body = (int)number();
-      for (int i = 0; i < r->body; i++) pool[poolcount++] = atom((int)number());
-      break; }
-    case 2: {
-      int p = (int)number(), k = (int)number(), i = 0;
-      while (i < levelcount && priorities[i] > p) i++;
-      if (i == levelcount || priorities[i] != p) {
-        memmove(&priorities[i + 1], &priorities[i], sizeof *priorities * (size_t)(levelcount++ - i));
-        priorities[i] = p;
-      }
-      while (k--) { int l = atom((int)number()); entries[entrycount++] = (struct entry){p, l, (uint32_t)number()}; }
-      break; }
-    case 4: {
-      long m = number(); at += 1 + m;
-      for (long k = number(); k--;) atom((int)number());
-      break; }
-    default: break;
-    }
-  }
-done:;
-}
-
-/* ---- stable sets and costs */
+static void begin_program(void) {}
+static void begin_question(void) {}
+static void decided(int l) { (void)l; }
+static void undecided(int l) { (void)l; }
 
 static int stable(void) {
   static char least[ATOMS + 1];
@@ -98,92 +26,6 @@ static int stable(void) {
   for (int a = 1; a <= n; a++) if (least[a] != (value[a] > 0)) return 0;
   return 1;
 }
-static void costs(uint64_t *c) {
-  for (int i = 0; i < levelcount; i++) {
-    c[i] = 0;
-    for (int e = 0; e < entrycount; e++) if (entries[e].priority == priorities[i] && truth(entries[e].literal) > 0) c[i] += entries[e].weight;
-  }
-}
-
-/* ---- wishes */
-
-static int count(int c);
-static int unmet(int w) { return wishes[w].core < 0 ? truth(wishes[w].literal) > 0 : count(wishes[w].core) > wishes[w].i; }
-static int count(int c) {
-  if (stamps[c] == stamp) return counts[c];
-  int k = 0;
-  for (int m = ends[c]; m < ends[c + 1]; m++) k += unmet(members[m]);
-  stamps[c] = stamp;
-  return counts[c] = k;
-}
-static void blame(int w) { if (!blamed[w]) { blamed[w] = 1; core[coresize++] = w; } }
-
-static void ask(void) {                      /* the next question, from an empty path */
-  while (len) value[abs(path[--len])] = 0;
-  for (int i = 0; i < coresize; i++) blamed[core[i]] = 0;
-  assumedcount = wishedcount = coresize = 0;
-  if (level < 0) return;
-  for (int w = 0; w < wishcount; w++) if (wishes[w].rest >= stratum) {
-    assumed[assumedcount++] = w;
-    if (wishes[w].core < 0) { spots[wishedcount] = w; wished[wishedcount++] = -wishes[w].literal; }
-  }
-}
-
-/* ---- levels */
-
-static void enter(int l) {
-  while (l < levelcount && upper[l] == 0) l++;
-  level = l;
-  if (l == levelcount) { status = OPTIMUM; return; }
-  wishcount = corecount = ends[0] = 0; stratum = 0;
-  for (int e = 0; e < entrycount; e++) if (entries[e].priority == priorities[l] && entries[e].weight > 0) {
-    wishes[wishcount++] = (struct wish){-1, entries[e].literal, 0, entries[e].weight};
-    if (entries[e].weight > stratum) stratum = entries[e].weight;
-  }
-}
-static void end(int found) {
-  if (found) {
-    uint64_t c[LEVELS];
-    costs(c);
-    int i = 0;
-    while (i < levelcount && have && c[i] == upper[i]) i++;
-    if (!have || (i < levelcount && c[i] < upper[i])) { have = 1; memcpy(upper, c, sizeof upper); }
-  }
-  if (level < 0) {
-    if (found) enter(0); else status = INCOHERENT;
-  } else {
-    if (found) {
-      uint32_t next = 0;
-      for (int w = 0; w < wishcount; w++) if (wishes[w].rest < stratum && wishes[w].rest > next) next = wishes[w].rest;
-      stratum = next;
-    } else {
-      int held = ends[corecount];
-      if (wishcount + coresize - 1 > WISHES || held + coresize > MEMBERS) { status = FULL; ask(); return; }
-      for (int i = 0; i < coresize; i++) { wishes[core[i]].rest -= stratum; members[held + i] = core[i]; }
-      for (int i = 1; i < coresize; i++) wishes[wishcount++] = (struct wish){corecount, 0, i, stratum};
-      stamps[corecount] = 0;
-      ends[++corecount] = held + coresize;
-      lower[level] += stratum;
-    }
-    if (upper[level] == lower[level]) enter(level + 1);
-  }
-  if (status == RUNNING) ask();
-}
-
-/* ---- one advance */
-
-static void fail(void) {
-  while (len) {
-    int l = path[--len];
-    value[abs(l)] = 0;
-    if (first[len]) {
-      path[len] = -l; first[len++] = 0; value[abs(l)] = l > 0 ? -1 : 1;
-      return;
-    }
-  }
-  end(0);
-}
-static void add(int l) { path[len] = l; first[len++] = 1; value[abs(l)] = l > 0 ? 1 : -1; }
 
 static int scan(int *breaker) {              /* whether a rule is broken in every set that agrees; else the first literal that would break one, or 0 */
   *breaker = 0;
@@ -203,60 +45,15 @@ static int scan(int *breaker) {              /* whether a rule is broken in ever
   }
   return 0;
 }
-static void judge(void) {                    /* a path that holds all n atoms */
-  uint64_t c[LEVELS];
-  if (!stable()) { fail(); return; }
-  if (level > 0) {
-    costs(c);
-    for (int i = 0; i < level; i++) if (c[i] != lower[i]) { fail(); return; }
-  }
-  stamp++;
-  for (int i = 0; i < coresize; i++) if (unmet(core[i])) { fail(); return; }
-  for (int i = 0; i < assumedcount; i++) if (unmet(assumed[i])) { blame(assumed[i]); fail(); return; }
-  end(1);
-}
+
 static void advance(void) {
   int l;
   advances++;
   if (scan(&l)) { fail(); return; }
   if (len == n) { judge(); return; }
-  int bad = -1;
-  for (int i = 0; i < wishedcount; i++) if (truth(wished[i]) < 0) {
-    if (blamed[spots[i]]) { fail(); return; }
-    if (bad < 0) bad = spots[i];
-  }
-  if (bad >= 0) { blame(bad); fail(); return; }
-  if (l) { add(-l); return; }
-  for (int i = 0; i < wishedcount; i++) if (truth(wished[i]) == 0) { add(wished[i]); return; }
-  for (int a = 1;; a++) if (value[a] == 0) { add(-a); return; }
-}
-
-static void fresh(void) {
-  len = coresize = assumedcount = wishedcount = have = 0;
-  memset(value, 0, sizeof value);
-  memset(blamed, 0, sizeof blamed);
-  memset(lower, 0, sizeof lower);
-  level = -1; status = RUNNING; advances = 0;
-}
-
-int main(int argc, char **argv) {
-  static const char *words[] = {"running", "optimum", "incoherent", "full"};
-  if (argc < 2) { fprintf(stderr, "usage: yardstick FILE [ADVANCES [TIMES]]\n"); return 2; }
-  uint64_t budget = argc > 2 ? strtoull(argv[2], 0, 10) : UINT64_MAX;
-  int times = argc > 3 ? atoi(argv[3]) : 1;
-  read_text(argv[1]);
-  struct timespec a, b;
-  clock_gettime(CLOCK_MONOTONIC, &a);
-  for (int i = 0; i < times; i++) {
-    fresh();
-    while (status == RUNNING && advances < budget) advance();
-  }
-  clock_gettime(CLOCK_MONOTONIC, &b);
-  double ns = (double)(b.tv_sec - a.tv_sec) * 1e9 + (double)(b.tv_nsec - a.tv_nsec);
-  printf("%s %llu\nlower", words[status], (unsigned long long)advances);
-  for (int i = 0; i < levelcount; i++) printf(" %llu", (unsigned long long)lower[i]);
-  printf("\nupper");
-  for (int i = 0; i < levelcount; i++) if (have) printf(" %llu", (unsigned long long)upper[i]); else printf(" -");
-  printf("\nns %.1f\n", advances ? ns / (double)advances / times : 0);
-  return 0;
+  int w = broken_wish();
+  if (w >= 0) { blame(w); fail(); return; }
+  if (l) { put(-l, 1); return; }
+  for (int i = 0; i < wishedcount; i++) if (truth(wished[i]) == 0) { put(wished[i], 1); return; }
+  for (int a = 1;; a++) if (value[a] == 0) { put(free_literal(a), 1); return; }
 }
