@@ -41,7 +41,7 @@ fn plan(budget: u32) {
 
 // A file that cannot be read counts as empty.
 fn plan_file(name: &[u8], budget: u32) {
-    let fd = os::open_read(name);
+    let fd = opened(name);
     let mut text = [0u8; 65537];
     let k = io::read_full(fd, &mut text);
     libc::close(fd);
@@ -52,6 +52,25 @@ fn plan_file(name: &[u8], budget: u32) {
         Loading::Accepted => plan_program(s, budget),
         Loading::RefusedAt { number, line } => console::print::refused_at(number, line),
     }
+}
+
+// The file, opened to be read. Where that fails, or it is a folder, standard error tells why.
+fn opened(name: &[u8]) -> i32 {
+    let fd = os::open_read(name);
+    if fd < 0 {
+        unreadable(name);
+        return fd;
+    }
+    let mut none = [0u8; 1];
+    if libc::read(fd, &mut none[0..0]) < 0 {
+        unreadable(name);
+    }
+    fd
+}
+
+fn unreadable(name: &[u8]) {
+    io::write_all(libc::STDERR_FILENO, b"plan: cannot read ");
+    os::fail(name);
 }
 
 fn plan_program(s: Service, budget: u32)

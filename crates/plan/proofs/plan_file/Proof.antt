@@ -9,13 +9,13 @@ use Rattle.plan.proofs.plan_file.Lts as lts
 use Rattle.console.proofs.print.refused_at.Reads as refused-at-reads
 use Rattle.io.proofs.read_full.Reads as read-full-reads
 use Rattle.libc.proofs.close.Reads as close-reads
-use Rattle.os.proofs.open_read.Reads as open-read-reads
+use Rattle.plan.proofs.opened.Reads as opened-reads
 use Rattle.plan.proofs.plan_program.Reads as plan-program-reads
 use Rattle.planner.proofs.load.load.Reads as load-reads
 use Rattle.planner.proofs.service.fresh.Reads as fresh-reads
 
-open-read-requires : tie.Need-open-read-requires
-open-read-requires c κs = search needs
+opened-requires : tie.Need-opened-requires
+opened-requires c κs = search needs
 
 slice-aggregate-read-full : tie.Need-slice-aggregate-read-full
 slice-aggregate-read-full c = search needs
@@ -63,7 +63,7 @@ pub plan-file-spec : {M : Type 1} → statement M
 plan-file-spec =
     tie.close
     (tie.spec
-    open-read-requires
+    opened-requires
     slice-aggregate-read-full
     read-full-requires
     close-requires
