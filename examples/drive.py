@@ -1,14 +1,33 @@
 #!/usr/bin/env python3
-"""Drives `serve` through a pipe: loads a text, runs it in slices and prints how far the plan is, then the plan.
+"""usage: drive.py FILE [ADVANCES IN A SLICE]
 
-    examples/drive.py FILE.aspif [ADVANCES IN A SLICE]
+Drives `bin/serve` through a pipe: loads the aspif program in FILE, runs it in slices (of 100000 advances if no number is given) and prints how far the plan is after each, then the
+plan: examples/drive.py examples/small.aspif 200
+Exit status: 0 an answer, 64 bad usage, 65 the text is refused, 66 FILE cannot be read.
 """
 import os
 import subprocess
 import sys
 
-program = os.path.join(os.path.dirname(os.path.abspath(__file__)), '..', 'target', 'bin', 'serve')
-serve = subprocess.Popen([program], stdin=subprocess.PIPE, stdout=subprocess.PIPE)
+
+def stop(status, *words):
+    print(*words, file=sys.stderr)
+    sys.exit(status)
+
+
+words = sys.argv[1:]
+if words[:1] in (['--help'], ['-h']):
+    print(__doc__.strip())
+    sys.exit(0)
+if len(words) not in (1, 2) or not words[-1] or (len(words) == 2 and not words[1].isdecimal()):
+    stop(64, __doc__.strip())
+try:
+    text = open(words[0], 'rb').read()
+except OSError as e:
+    stop(66, f'drive.py: cannot read {words[0]}: {e.strerror}')
+budget = words[1] if len(words) == 2 else '100000'
+
+serve = subprocess.Popen([os.path.join(os.path.dirname(os.path.abspath(__file__)), '..', 'bin', 'serve')], stdin=subprocess.PIPE, stdout=subprocess.PIPE)
 
 
 def ask(command, text=b'', lines=1):
@@ -17,14 +36,15 @@ def ask(command, text=b'', lines=1):
     return [serve.stdout.readline().decode().rstrip('\n') for _ in range(lines)]
 
 
-text = open(sys.argv[1], 'rb').read()
-budget = sys.argv[2] if len(sys.argv) > 2 else '100000'
 answer = ask(f'load {len(text)}', text)[0]
 if answer != 'loaded':
-    sys.exit(answer)
+    stop(65, f'drive.py: {words[0]}: {answer}')
 status = 'running'
 while status == 'running':
-    status = ask(f'run {budget}')[0].split()[0]
+    answer = ask(f'run {budget}')[0]
+    if answer.startswith('error'):
+        stop(64, f'drive.py: {answer}')
+    status = answer.split()[0]
     look = dict(line.partition(' ')[::2] for line in ask('look', lines=7))
     print(f"cost {look['upper']}, at least {look['lower']}")
 print(status)

@@ -1,8 +1,17 @@
 #!/usr/bin/env python3
-"""hatchery.py SIRES DAMS TANKS [SEED]: a made-up hatchery for mating.lp, on standard output."""
+"""usage: hatchery.py SIRES DAMS TANKS [SEED]
+
+Prints a made-up hatchery for mating.lp; the same seed (1 if none is given) gives the same one.
+"""
 import random
 import sys
 
+if sys.argv[1:2] in (['--help'], ['-h']):
+    print(__doc__.strip())
+    sys.exit(0)
+if len(sys.argv) not in (4, 5) or not all(a.isdecimal() and int(a) > 0 for a in sys.argv[1:4]) or not all(a.isdecimal() for a in sys.argv[4:]):
+    print(__doc__.strip(), file=sys.stderr)
+    sys.exit(64)
 sires, dams, tanks = map(int, sys.argv[1:4])
 r = random.Random(int(sys.argv[4]) if len(sys.argv) > 4 else 1)
 S = ['s%d' % i for i in range(1, sires + 1)]
