@@ -99,9 +99,10 @@ def random_program(seed):
 
 def largest():
     """Every table of an optimization full: 2,048 rules with 16,384 literals, 1,024 atoms, 512 entries, 8 levels. On the lowest level one entry must be paid for and
-    the rest can be spared together, since each longer constraint has an atom that nothing asks for; on the others the first model costs nothing."""
+    the rest can be spared together, since each longer constraint has an atom that nothing asks for; on the others the first model costs nothing. The choice has a body,
+    which always holds (1,000 has no rule), so that its atoms are tried out first under either free branch."""
     r = random.Random(7)
-    lines = [[1, 1, 1024, *range(1, 1025), 0, 0]]
+    lines = [[1, 1, 1023, *range(1, 1000), *range(1001, 1025), 0, 1, -1000]]
     paid = (7,)
     lines += [[1, 0, 0, 0, 1, 64 * l + 1] for l in paid]
     left = 16384 - 1024 - len(paid)

@@ -29,9 +29,10 @@ LEVELS = ('10 levels\n1 1 4 1 2 3 4 0 0\n1 0 0 0 2 -1 -2\n10\n1 0 0 0 2 -3 -4\n1
 
 def many(filling):
     """100 dear ways and a cheap one that 39 entries price: each of 39 cores has 101 members and gives 100 wishes. With `filling` more wishes, all met, the level
-    comes to 4,039 + filling of them; entries of weight 0 are none. The next level has a core of two. An atom that stands in a symbol only keeps paths open."""
+    comes to 4,039 + filling of them; entries of weight 0 are none. The next level has a core of two. An atom that stands in a symbol only keeps paths open. The choice has a
+    body, which always holds (103 has no rule), so that its atoms are tried out first under either free branch."""
     ways = ' '.join(map(str, range(1, 102)))
-    return (f'1 1 103 {ways} 104 105 0 0\n1 0 0 0 101 {" ".join(str(-a) for a in range(1, 102))}\n1 0 0 0 2 -104 -105\n'
+    return (f'1 1 103 {ways} 104 105 0 1 -103\n1 0 0 0 101 {" ".join(str(-a) for a in range(1, 102))}\n1 0 0 0 2 -104 -105\n'
             f'2 9 100 {" ".join(f"{a} 1000" for a in range(1, 101))}\n2 9 39{" 101 1" * 39}\n2 9 {filling + 3}{" 103 1" * filling}{" 101 0" * 3}\n2 1 2 104 6 105 6\n'
             '4 4 rest 1 102\n4 5 cheap 1 101\n')
 
