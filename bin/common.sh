@@ -14,7 +14,7 @@ build() {
 
 # attend WORDS..: runs a command to its end, with this script's input, and gives its status. What ends this script by a signal ends the command too.
 attend() {
-    exec 3<&0
+    { command exec 3<&0; } 2>/dev/null || exec 3</dev/null
     "$@" <&3 &
     child=$!
     trap 'kill "$child" 2>/dev/null; exit 143' HUP INT TERM
