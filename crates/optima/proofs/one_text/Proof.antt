@@ -1,6 +1,8 @@
 -- `optima::one_text` meets its contract.
 -- Assumes nothing.
-use Rattle.optima.proofs.Reaching.{well-formed}
+use Rattle.aspif_lines.specs.Text.{textOf}
+use Rattle.planner.specs.Calls.{saysLoad}
+use Rattle.planner.proofs.Kept.{sound-fresh, sound-load}
 use borrow.Author.Needs.{needs}
 use Rattle.optima.proofs.one_text.Statement.{statement}
 use Rattle.optima.proofs.one_text.Tie as tie
@@ -17,6 +19,9 @@ read-full-requires c κs = search needs
 close-requires : tie.Need-close-requires
 close-requires c κs = search needs
 
+fresh-requires : tie.Need-fresh-requires
+fresh-requires c κs = search needs
+
 sub-load : tie.Need-sub-load
 sub-load c = search needs
 
@@ -29,23 +34,23 @@ part-load-end c = search needs
 load-requires : tie.Need-load-requires
 load-requires c κs = search needs
 
-write-all-requires : tie.Need-write-all-requires
-write-all-requires c κs = search needs
+text-requires : tie.Need-text-requires
+text-requires c κs = search needs
 
 enum-told : tie.Need-enum-told
 enum-told c = search needs
 
 optimize-requires : tie.Need-optimize-requires
-optimize-requires c κs = search (well-formed, needs)
+optimize-requires c κs = sound-load (textOf _) (saysLoad (c .before .before .before .before .load .result .answer)) (c .before .before .before .before .load .ensures) (sound-fresh (c .before .before .before .before .before .before .before .fresh .ensures))
 
 enum-told-2 : tie.Need-enum-told-2
 enum-told-2 c = search needs
 
-slice-aggregate-write-all : tie.Need-slice-aggregate-write-all
-slice-aggregate-write-all c = search needs
+slice-aggregate-text : tie.Need-slice-aggregate-text
+slice-aggregate-text c = search needs
 
-write-all-requires-2 : tie.Need-write-all-requires-2
-write-all-requires-2 c κs = search needs
+text-requires-2 : tie.Need-text-requires-2
+text-requires-2 c κs = search needs
 
 returns : tie.Need-returns
 returns c = search needs
@@ -61,15 +66,16 @@ one-text-spec =
     slice-aggregate-read-full
     read-full-requires
     close-requires
+    fresh-requires
     sub-load
     part-load-start
     part-load-end
     load-requires
-    write-all-requires
+    text-requires
     enum-told
     optimize-requires
     enum-told-2
-    slice-aggregate-write-all
-    write-all-requires-2
+    slice-aggregate-text
+    text-requires-2
     returns
     returns-2)
