@@ -32,7 +32,7 @@ CASES = [
 def lits(text):
     return "".join(f"{ord(c)} ∷ " for c in text) + "[]"
 
-OPEN = "unfolding textOf pieces same lines stepped statement token number digits decimal natural signed atom literal more opening bodyCount ruleLine pair minimiseLine symbolLine ofKind fits sum insert"
+OPEN = "unfolding textOf pieces same lines stepped statement token number digits decimal natural signedToken signed atom literal more opening bodyCount ruleLine pair minimiseLine symbolLine ofKind fits sum insert"
 out = ["-- Texts of document 01 with the answers that it gives, each by computation. Written by tests/aspif_samples.py. Assumes nothing.",
        "use mathlib.Core.Path.{_≡_, refl}",
        "use mathlib.Core.Bool.{true, false}",
@@ -40,7 +40,7 @@ out = ["-- Texts of document 01 with the answers that it gives, each by computat
        "use Prim.Native.Nat.{ℕ}",
        "use lib.IntN.{ℤ, pos, negsuc}",
        "use Rattle.asp.specs.Program.{normal, constraint, plain, choice, Rule, Entry, Symbol, Program}",
-       "use Rattle.aspif.specs.Text.{textOf, pieces, same, lines, stepped, statement, token, number, digits, decimal, natural, signed, atom, literal, more, opening, bodyCount, ruleLine, pair, minimiseLine, symbolLine, ofKind, fits, sum, insert, Answer, accepted, refused}",
+       "use Rattle.aspif_lines.specs.Text.{textOf, pieces, same, lines, stepped, statement, token, number, digits, decimal, natural, signedToken, signed, atom, literal, more, opening, bodyCount, ruleLine, pair, minimiseLine, symbolLine, ofKind, fits, sum, insert, Answer, accepted, refused}",
        "",
        "-- ---- `plan.aspif`", "",
        "abbrev pub plan : List ℕ", "plan = " + lits(PLAN), "",

@@ -11,10 +11,10 @@ use borrow.Author.Tests.{leb-true, eqb-false}
 use Rattle.asp.specs.Sets.{pick, In}
 use Rattle.asp.specs.Program.{Literal, normal, Head, constraint, plain, choice, Rule, Entry, Symbol, Program, All, LiteralIn, HeadIn, RuleIn, ProgramIn}
 use Rattle.asp.specs.Tables.{named, plainHead}
-use Rattle.aspif_lines.specs.Text.{both, within, Read, got, bad, bind, next, token, number, signed, field, natural, atom, literal, member, more, nil, ended, Opening, opening, bodyCount, headOf, ruleOf, ruleLine, pair, Minimise, minimiseLine, nameByte, symbolLine, Statement, rule, minimise, symbol, comment, final, ofKind, statement, Reading, add, addRule, addMinimise, addSymbol, insert, fits, nothing, last, goes, led, stepped, judged, lines, same, header, none, opened, headed, pieces, sum, textOf, Answer, accepted, refused}
+use Rattle.aspif_lines.specs.Text.{within, Read, got, bad, bind, next, token, ranged, number, signedToken, signedUpTo, signed, field, natural, atom, literal, member, more, nil, ended, Opening, opening, bodyCount, headOf, ruleOf, ruleLine, pair, Minimise, minimiseLine, nameByte, symbolLine, Statement, rule, minimise, symbol, comment, final, ofKind, statement, Reading, add, addRule, addMinimise, addSymbol, insert, fits, nothing, isFinal, Step, stop, last, goes, led, stepped, judged, lines, same, header, none, opened, headed, pieces, sum, textOf, Answer, accepted, refused}
 use Rattle.aspif.specs.Store.{Descending}
 use Rattle.aspif.proofs.Levels.{descending-insert}
-use Rattle.aspif_lines.proofs.Signs.{abs-neg}
+use Rattle.aspif_lines.proofs.Tokens.{within-ends}
 
 -- ---- what is read, if something is
 
@@ -37,18 +37,14 @@ reads-pick : {A : Type 0} (P : A → Type 0) (b : Bool) (x y : Read A) → (b �
 reads-pick P true x y f g = f refl
 reads-pick P false x y f g = g refl
 
-both-true : (a b : Bool) → both a b ≡ true → (a ≡ true) × (b ≡ true)
-both-true true b e = (refl, e)
-both-true false b e = let z : _≡_ {A = ℕ} 0 1 = cc in absurd (omega arith)
-
 abbrev Range : ℕ → ℕ → ℕ → Type 0
 Range lo hi v = (lo ≤ v) × (v ≤ hi)
 
 number-reads : (lo hi : ℕ) (l : List ℕ) → Reads (Range lo hi) (number lo hi l)
 unfolding number
 number-reads lo hi l =
-    reads-bind Any (Range lo hi) (token l) (λ v r. pick (within lo hi v) (got v r) (bad 4)) (any (token l))
-    (λ v r u. reads-pick (Range lo hi) (within lo hi v) (got v r) (bad 4) (λ e. let b = both-true (leb lo v) (leb v hi) e in (leb-true lo v (b .0), leb-true v hi (b .1))) (λ e. tt))
+    reads-bind Any (Range lo hi) (token l) (ranged lo hi) (any (token l))
+    (λ v r u. reads-pick (Range lo hi) (within lo hi v) (got v r) (bad 4) (within-ends lo hi v) (λ e. tt))
 
 field-reads : {A : Type 0} (P : A → Type 0) (f : List ℕ → Read A) (l : List ℕ) → ((r : List ℕ) → Reads P (f r)) → Reads P (field f l)
 field-reads P f l h = reads-pick P (eqb (next l) 32) (f (drop 1 l)) (bad 2) (λ e. h (drop 1 l)) (λ e. tt)
@@ -63,12 +59,8 @@ Small hi z = natAbs z ≤ hi
 signed-reads : (hi : ℕ) (l : List ℕ) → Reads (Small hi) (signed hi l)
 unfolding signed
 signed-reads hi l =
-    reads-pick (Small hi) (eqb (next l) 45)
-    (bind (number 0 hi (drop 1 l)) (λ v r. pick (eqb v 0) (bad 2) (got (negℤ (pos v)) r)))
-    (bind (number 0 hi l) (λ v r. got (pos v) r))
-    (λ e. reads-bind (Range 0 hi) (Small hi) (number 0 hi (drop 1 l)) (λ v r. pick (eqb v 0) (bad 2) (got (negℤ (pos v)) r)) (number-reads 0 hi (drop 1 l))
-    (λ v r h. reads-pick (Small hi) (eqb v 0) (bad 2) (got (negℤ (pos v)) r) (λ e. tt) (λ e. omega (arith, abs-neg (pos v), h .1))))
-    (λ e. reads-bind (Range 0 hi) (Small hi) (number 0 hi l) (λ v r. got (pos v) r) (number-reads 0 hi l) (λ v r h. h .1))
+    reads-bind Any (Small hi) (signedToken l) (signedUpTo hi) (any (signedToken l))
+    (λ z r u. reads-pick (Small hi) (leb (natAbs z) hi) (got z r) (bad 4) (leb-true (natAbs z) hi) (λ e. tt))
 
 -- a head's atom is one, and a body's literal has one
 abbrev Member : Bool → ℤ → Type 0

@@ -16,7 +16,7 @@ use Rattle.aspif_lines.specs.Seen.{bytesAt, Kept}
 use Rattle.aspif.specs.Store.{SymbolsSound, RuleAdded, AddedRule, MinimiseAdded, AddedMinimise, SymbolAdded, AddedSymbol, otherTurn, finalCounts, ruleCounts, minimiseCounts, symbolCounts, Lists, lists, Sized, tables, readingOf, Sound, seenTurn, TurnAfter, Descending}
 use Rattle.aspif.specs.declared.table.Counts.{Counts}
 use Rattle.aspif.specs.declared.add.Turn.{Turn}
-use Rattle.aspif.specs.declared.add.Turn.the-variants.{Stop, Last, Goes}
+use Rattle.aspif.specs.declared.add.Turn.the-variants as turn
 use Rattle.aspif_lines.proofs.Spans.{span-same, highest-snoc}
 use Rattle.aspif.proofs.Levels.{descending-insert}
 
@@ -82,7 +82,7 @@ module _ (s : List ℕ) (t : Lists) (n : Counts) (text′ : List ℕ) (end : ℕ
       unfolding ofKind
       rule-kind x e = rw (one, e)
 
-      rule-goes : (m : Counts) → RuleAdded (t .pool) (t .rules) pool′ rules′ n end r m → Leads ruled (Goes m)
+      rule-goes : (m : Counts) → RuleAdded (t .pool) (t .rules) pool′ rules′ n end r m → Leads ruled (turn.Goes m)
       rule-goes m a =
           rw (a .counts) (
             rw (kind-led (rule-kind (got (a .read) []) (a .line)), a .grown, same, appended),
@@ -99,9 +99,9 @@ module _ (s : List ℕ) (t : Lists) (n : Counts) (text′ : List ℕ) (end : ℕ
           )
 
       pub rule-leads : (a : Turn) → AddedRule (t .pool) (t .rules) pool′ rules′ n end r a → Leads ruled a
-      rule-leads (Stop c) e = (sym (kind-led (rule-kind (bad c) e)), tt)
-      rule-leads (Last m) e = absurd e
-      rule-leads (Goes m) e = rule-goes m e
+      rule-leads (turn.Refused c) e = (sym (kind-led (rule-kind (bad c) e)), tt)
+      rule-leads (turn.Last m) e = absurd e
+      rule-leads (turn.Goes m) e = rule-goes m e
 
     -- ---- minimise lines
     module _ (ps′ ls′ : List ℤ) (ws′ : List ℕ) (levels′ : List ℤ) (two : kind ≡ 2) where
@@ -112,7 +112,7 @@ module _ (s : List ℕ) (t : Lists) (n : Counts) (text′ : List ℕ) (end : ℕ
       unfolding ofKind
       minimise-kind x e = rw (two, e)
 
-      minimise-goes : (m : Counts) → MinimiseAdded (t .priorities) (t .literals) (t .weights) (t .levels) ps′ ls′ ws′ levels′ n end r m → Leads minimised (Goes m)
+      minimise-goes : (m : Counts) → MinimiseAdded (t .priorities) (t .literals) (t .weights) (t .levels) ps′ ls′ ws′ levels′ n end r m → Leads minimised (turn.Goes m)
       minimise-goes m a =
           rw (a .counts) (
             rw (kind-led (minimise-kind (got (a .read) []) (a .line)), a .grown, a .levelled, same, appended),
@@ -129,9 +129,9 @@ module _ (s : List ℕ) (t : Lists) (n : Counts) (text′ : List ℕ) (end : ℕ
           )
 
       pub minimise-leads : (a : Turn) → AddedMinimise (t .priorities) (t .literals) (t .weights) (t .levels) ps′ ls′ ws′ levels′ n end r a → Leads minimised a
-      minimise-leads (Stop c) e = (sym (kind-led (minimise-kind (bad c) e)), tt)
-      minimise-leads (Last m) e = absurd e
-      minimise-leads (Goes m) e = minimise-goes m e
+      minimise-leads (turn.Refused c) e = (sym (kind-led (minimise-kind (bad c) e)), tt)
+      minimise-leads (turn.Last m) e = absurd e
+      minimise-leads (turn.Goes m) e = minimise-goes m e
 
     -- ---- symbols
     module _ (conditions′ : List ℤ) (symbols′ : List ℕ) (four : kind ≡ 4) where
@@ -142,7 +142,7 @@ module _ (s : List ℕ) (t : Lists) (n : Counts) (text′ : List ℕ) (end : ℕ
       unfolding ofKind
       symbol-kind x e = rw (four, e)
 
-      symbol-goes : (m : Counts) → SymbolAdded text′ (t .conditions) (t .symbols) conditions′ symbols′ n end r m → Leads symbolled (Goes m)
+      symbol-goes : (m : Counts) → SymbolAdded text′ (t .conditions) (t .symbols) conditions′ symbols′ n end r m → Leads symbolled (turn.Goes m)
       symbol-goes m a =
           let grown = rw same at (a .grown) in
           rw (a .counts) (
@@ -160,9 +160,9 @@ module _ (s : List ℕ) (t : Lists) (n : Counts) (text′ : List ℕ) (end : ℕ
           )
 
       pub symbol-leads : (a : Turn) → AddedSymbol text′ (t .conditions) (t .symbols) conditions′ symbols′ n end r a → Leads symbolled a
-      symbol-leads (Stop c) e = (sym (kind-led (symbol-kind (bad c) e)), tt)
-      symbol-leads (Last m) e = absurd e
-      symbol-leads (Goes m) e = symbol-goes m e
+      symbol-leads (turn.Refused c) e = (sym (kind-led (symbol-kind (bad c) e)), tt)
+      symbol-leads (turn.Last m) e = absurd e
+      symbol-leads (turn.Goes m) e = symbol-goes m e
 
     -- ---- the other kinds
     module _ (no1 : kind ≡ 1 → ⊥) (no2 : kind ≡ 2 → ⊥) (no4 : kind ≡ 4 → ⊥) where
@@ -172,23 +172,23 @@ module _ (s : List ℕ) (t : Lists) (n : Counts) (text′ : List ℕ) (end : ℕ
       kept-sound : Sound put n
       kept-sound = record { sized = sized; rules = sound .rules; symbols = symbol-ready; levels = sound .levels; atoms = rw same (sound .atoms) }
 
-      final-leads : (b : Bool) → nil r ≡ b → kind ≡ 0 → Leads put (pick b (Last (finalCounts n end)) (Stop 2))
+      final-leads : (b : Bool) → nil r ≡ b → kind ≡ 0 → Leads put (pick b (turn.Last (finalCounts n end)) (turn.Refused 2))
       unfolding ofKind
       final-leads true e z = (rw (kind-led {x = got final []} (rw (z, e)), same, appended), (put-sound, omega arith))
       final-leads false e z = (sym (kind-led {x = bad 2} (rw (z, e))), tt)
 
-      comment-leads : kind ≡ 10 → Leads put (Goes n)
+      comment-leads : kind ≡ 10 → Leads put (turn.Goes n)
       unfolding ofKind
       comment-leads z = (rw (kind-led {x = got comment []} (rw z), same, bytes-kept (t .text) text′ (n .text) kept), (kept-sound, omega arith))
 
-      unread-leads : (kind ≡ 0 → ⊥) → (kind ≡ 10 → ⊥) → Leads put (Stop 3)
+      unread-leads : (kind ≡ 0 → ⊥) → (kind ≡ 10 → ⊥) → Leads put (turn.Refused 3)
       unfolding ofKind
       unread-leads f g = (sym (kind-led {x = bad 3} (rw (ne-eqb kind 0 f, ne-eqb kind 1 no1, ne-eqb kind 2 no2, ne-eqb kind 4 no4, ne-eqb kind 10 g))), tt)
 
       pub other-leads : (a : Turn) → a ≡ otherTurn kind r n end → Leads put a
       other-leads a e = rw e (go (eqb kind 0) (eqb kind 10) refl refl)
         where
-          go : (x y : Bool) → eqb kind 0 ≡ x → eqb kind 10 ≡ y → Leads put (pick x (pick (nil r) (Last (finalCounts n end)) (Stop 2)) (pick y (Goes n) (Stop 3)))
+          go : (x y : Bool) → eqb kind 0 ≡ x → eqb kind 10 ≡ y → Leads put (pick x (pick (nil r) (turn.Last (finalCounts n end)) (turn.Refused 2)) (pick y (turn.Goes n) (turn.Refused 3)))
           go true y p q = final-leads (nil r) refl (eqb-true kind 0 p)
           go false true p q = comment-leads (eqb-true kind 10 q)
           go false false p q = unread-leads (eqb-false kind 0 p) (eqb-false kind 10 q)

@@ -18,7 +18,7 @@ use Rattle.aspif.specs.declared.text.Stored.{Stored}
 use Rattle.aspif.specs.declared.text.Loading.{Loading}
 use Rattle.aspif.specs.declared.text.Loading.the-variants.{Accepted, RefusedAt}
 use Rattle.aspif.specs.declared.text.Verdict.{Verdict}
-use Rattle.aspif.specs.declared.text.Verdict.the-variants.{Taken, Refused}
+use Rattle.aspif.specs.declared.text.Verdict.the-variants as verdict
 use Rattle.aspif_lines.proofs.Spans.{span-length}
 use Rattle.aspif.proofs.Onwards.{fits-of, limits-within}
 use Rattle.aspif.proofs.Accepted.{Fine, Good, accepted-good}
@@ -123,11 +123,11 @@ module _ (p : Stored) (s : List ℕ) (sound : Sound (listsOf p) (p .counts)) (e 
 pub load-answer : (p : Stored) (v : Verdict) (a : Loading) (s : List ℕ) → p .counts ≡ countsOf v → a ≡ answerFor v → seenVerdict (listsOf p) v ≡ textOf s → VerdictAfter (listsOf p) v
     → (answerOf p a ≡ textOf s) × StoredAfter p a
 unfolding span
-load-answer p (Taken n) a s c e q h =
+load-answer p (verdict.Taken n) a s c e q h =
     let x : answerOf p Accepted ≡ textOf s = rw c q in
     let y : Sound (listsOf p) (p .counts) = rw c h in
     rw e (x, well-formed p s y (sym x))
-load-answer p (Refused k m) a s c e q h = rw (e, c) (q, (refl, refl))
+load-answer p (verdict.Refused k m) a s c e q h = rw (e, c) (q, (refl, refl))
 
 -- what is stored, and so what is written out, is accepted with the same program and stored as it is
 pub written-again : (p : Stored) (s : List ℕ) → answerOf p Accepted ≡ textOf s → textOf (storedText p) ≡ accepted (storedProgram p) (storedText p)

@@ -1,6 +1,6 @@
 -- From a line to the next: its byte 10, what follows it, the limits. Assumes nothing.
 use mathlib.Core.Path.{_≡_, refl, sym, ap, _∙_}
-use mathlib.Core.Bool.{Bool, true, false}
+use mathlib.Core.Bool.{Bool, true, false, and-eq-true-iff}
 use mathlib.Core.List.{List, [], _∷_, _++_}
 use mathlib.Core.Logic.{⊎-elim}
 use Rattle.aspif_lines.proofs.Tokens.{lt-or-le}
@@ -14,14 +14,14 @@ use lib.Seq.{drop-cons}
 use borrow.Author.Tests.{eqb-true, eqb-false, leb-true}
 use Rattle.asp.specs.Sets.{pick}
 use Rattle.asp.specs.Tables.{ruleAt, symbolAt, entryAt, rowAt}
-use Rattle.aspif_lines.specs.Text.{both, pieces, longer, nothing, judged, lines, stepped, fits, limits, Reading, Step, stop, last, goes, Answer, accepted, refused}
+use Rattle.aspif_lines.specs.Text.{pieces, longer, nothing, judged, lines, stepped, fits, limits, Reading, Step, stop, last, goes, Answer, accepted, refused}
 use Rattle.aspif_lines.specs.Seen.{follow}
 use Rattle.aspif.specs.Store.{Within, Lists, readingOf, Sound, seenTurn, TurnAfter, onwardOf, seenOnward, OnwardAfter}
 use Rattle.aspif.specs.declared.table.Counts.{Counts}
 use Rattle.aspif.specs.declared.add.Turn.{Turn}
-use Rattle.aspif.specs.declared.add.Turn.the-variants.{Stop, Last, Goes}
+use Rattle.aspif.specs.declared.add.Turn.the-variants as turn
 use Rattle.aspif.specs.declared.text.Onward.{Onward}
-use Rattle.aspif.specs.declared.text.Onward.the-variants.{Refuse, Accept, On}
+use Rattle.aspif.specs.declared.text.Onward.the-variants as onward
 use Rattle.aspif_lines.proofs.Spans.{span-length}
 
 pub pieces-some : (s : List ℕ) → pieces s ≡ [] → ⊥
@@ -54,29 +54,22 @@ last-on m q go (x ∷ xs) h = refl
 
 -- ---- the limits by the counts
 
-both-left : (a b : Bool) → both a b ≡ true → a ≡ true
-both-left true b e = refl
-both-left false b e = e
-
-both-right : (a b : Bool) → both a b ≡ true → b ≡ true
-both-right true b e = e
-both-right false b e = let z : _≡_ {A = ℕ} 0 1 = cc in absurd (omega arith)
-
 pub limits-within : (n : Counts) → limits (n .rules) (n .used) (n .entries) (n .levels) (n .symbols) (n .conditions) (n .names) ≡ true → Within n
-limits-within n e0 =
-    let e1 = both-right (leb (n .rules) 2048) _ e0 in
-    let e2 = both-right (leb (n .used) 16384) _ e1 in
-    let e3 = both-right (leb (n .entries) 512) _ e2 in
-    let e4 = both-right (leb (n .levels) 8) _ e3 in
-    let e5 = both-right (leb (n .symbols) 512) _ e4 in
+limits-within n e =
+    let names = and-eq-true-iff _ (leb (n .names) 16384) .0 e in
+    let conditions = and-eq-true-iff _ (leb (n .conditions) 2048) .0 (names .0) in
+    let symbols = and-eq-true-iff _ (leb (n .symbols) 512) .0 (conditions .0) in
+    let levels = and-eq-true-iff _ (leb (n .levels) 8) .0 (symbols .0) in
+    let entries = and-eq-true-iff _ (leb (n .entries) 512) .0 (levels .0) in
+    let used = and-eq-true-iff (leb (n .rules) 2048) (leb (n .used) 16384) .0 (entries .0) in
     record {
-      rules = leb-true (n .rules) 2048 (both-left _ _ e0);
-      used = leb-true (n .used) 16384 (both-left _ _ e1);
-      entries = leb-true (n .entries) 512 (both-left _ _ e2);
-      levels = leb-true (n .levels) 8 (both-left _ _ e3);
-      symbols = leb-true (n .symbols) 512 (both-left _ _ e4);
-      conditions = leb-true (n .conditions) 2048 (both-left _ _ e5);
-      names = leb-true (n .names) 16384 (both-right (leb (n .conditions) 2048) _ e5);
+      rules = leb-true (n .rules) 2048 (used .0);
+      used = leb-true (n .used) 16384 (used .1);
+      entries = leb-true (n .entries) 512 (entries .1);
+      levels = leb-true (n .levels) 8 (levels .1);
+      symbols = leb-true (n .symbols) 512 (symbols .1);
+      conditions = leb-true (n .conditions) 2048 (conditions .1);
+      names = leb-true (n .names) 16384 (names .1);
     }
 
 pub fits-of : (t : Lists) (n : Counts) → Sound t n → limits (n .rules) (n .used) (n .entries) (n .levels) (n .symbols) (n .conditions) (n .names) ≡ fits (readingOf t n .program)
@@ -145,18 +138,18 @@ module _ (s : List ℕ) (at end : ℕ) (l : List ℕ) (p : Reading) (cut : piece
   Onwards u o = ((m : ℕ) → seenOnward s u m o ≡ lines m p (pieces (drop at s))) × OnwardAfter s u at o
 
   pub onward-leads : (u : Lists) (a : Turn) (limit : ℕ) → at ≤ end → limit ≤ end + 1 → seenTurn u a ≡ stepped l p → TurnAfter u limit a → Onwards u (onwardOf a end (length s))
-  onward-leads u (Stop c) limit o b e t = (λ m. on-stop m c e, omega arith)
-  onward-leads u (Last n) limit o b e t = go (eqb end (length s)) (eqb (end + 1) (length s)) refl refl
+  onward-leads u (turn.Refused c) limit o b e t = (λ m. on-stop m c e, omega arith)
+  onward-leads u (turn.Last n) limit o b e t = go (eqb end (length s)) (eqb (end + 1) (length s)) refl refl
     where
-      go : (x y : Bool) → eqb end (length s) ≡ x → eqb (end + 1) (length s) ≡ y → Onwards u (pick x (Refuse 2 0) (pick y (Accept n) (Refuse 2 1)))
+      go : (x y : Bool) → eqb end (length s) ≡ x → eqb (end + 1) (length s) ≡ y → Onwards u (pick x (onward.Refused 2 0) (pick y (onward.Accept n) (onward.Refused 2 1)))
       go true y q r = (λ m. on-last-cut m (readingOf u n) (eqb-true end (length s) q) e, omega arith)
       go false true q r = (λ m. on-accept m (readingOf u n) (eqb-true (end + 1) (length s) r) e, t .0)
       go false false q r = (λ m. on-after m (readingOf u n) (let h : end < length s = below end (length s) inside (eqb-false end (length s) q) in below (end + 1) (length s) (omega arith) (eqb-false (end + 1) (length s) r)) e, omega arith)
-  onward-leads u (Goes n) limit o b e t =
+  onward-leads u (turn.Goes n) limit o b e t =
       go (eqb end (length s)) (limits (n .rules) (n .used) (n .entries) (n .levels) (n .symbols) (n .conditions) (n .names)) refl refl
     where
       go : (x y : Bool) → eqb end (length s) ≡ x → limits (n .rules) (n .used) (n .entries) (n .levels) (n .symbols) (n .conditions) (n .names) ≡ y
-          → Onwards u (pick x (Refuse 2 0) (pick y (On n (end + 1)) (Refuse 5 0)))
+          → Onwards u (pick x (onward.Refused 2 0) (pick y (onward.On n (end + 1)) (onward.Refused 5 0)))
       go true y q r = (λ m. on-goes-cut m (readingOf u n) (eqb-true end (length s) q) e, omega arith)
       go false true q r =
           let h : end < length s = below end (length s) inside (eqb-false end (length s) q) in

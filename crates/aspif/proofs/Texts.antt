@@ -1,6 +1,6 @@
 -- Line 1, and the text as a whole. Assumes nothing.
 use mathlib.Core.Path.{_≡_, refl, sym, ap, ap₂, _∙_}
-use mathlib.Core.Bool.{Bool, true, false}
+use mathlib.Core.Bool.{Bool, true, false, _&&_}
 use mathlib.Core.List.{List, [], _∷_, _++_}
 use mathlib.Core.Logic.{⊎-elim}
 use Prim.Native.Nat.{ℕ, zero, suc, _+_, _-_, _≤_, _<_}
@@ -13,7 +13,7 @@ use borrow.Author.Tests.{eq-eqb, ne-eqb, eqb-true, lt-ltb, le-ltb}
 use Rattle.asp.specs.Sets.{pick}
 use Rattle.asp.specs.Program.{highest}
 use Rattle.asp.specs.Tables.{span}
-use Rattle.aspif_lines.specs.Text.{both, next, nil, same, header, line, pieces, headed, opened, lines, textOf, Reading, Answer, refused, accepted, sum}
+use Rattle.aspif_lines.specs.Text.{next, nil, same, header, line, pieces, headed, opened, lines, textOf, Reading, Answer, refused, accepted, sum}
 use Rattle.aspif_lines.specs.Seen.{follow, bytesAt}
 use Rattle.aspif.specs.Store.{Lists, Sized, readingOf, Sound, Within, RulesSound, SymbolsSound, noCounts}
 use Rattle.aspif_lines.proofs.Tokens.{lt-or-le}
@@ -26,7 +26,7 @@ same-true [] (b ∷ l) e = let z : _≡_ {A = ℕ} 0 1 = cc in absurd (omega ari
 same-true (a ∷ k) [] e = let z : _≡_ {A = ℕ} 0 1 = cc in absurd (omega arith)
 same-true (a ∷ k) (b ∷ l) e = go (eqb a b) refl e (same-true k l)
   where
-    go : (t : Bool) → eqb a b ≡ t → both t (same k l) ≡ true → (same k l ≡ true → k ≡ l) → a ∷ k ≡ b ∷ l
+    go : (t : Bool) → eqb a b ≡ t → (t && same k l) ≡ true → (same k l ≡ true → k ≡ l) → a ∷ k ≡ b ∷ l
     go true q r f = let x : a ≡ b = eqb-true a b q in let y : k ≡ l = f r in cc
     go false q r f = let z : _≡_ {A = ℕ} 0 1 = cc in absurd (omega arith)
 
@@ -88,7 +88,7 @@ same-apart [] (b ∷ l) h = refl
 same-apart (a ∷ k) [] h = refl
 same-apart (a ∷ k) (b ∷ l) h = go (eqb a b) (same-apart k l (λ e. h (ap suc e)))
   where
-    go : (t : Bool) → false ≡ same k l → false ≡ both t (same k l)
+    go : (t : Bool) → false ≡ same k l → false ≡ (t && same k l)
     go true e = e
     go false e = refl
 
@@ -101,7 +101,7 @@ pub comparing-starts : (k l : List ℕ) → length k ≡ length l → Comparing 
 comparing-starts k l h = record { long = h; left = refl }
 
 module _ {k l : List ℕ} {i : ℕ} (so : Comparing k l i) where
-  comparing-cons : i < length k → both (eqb (getD k i 0) (getD l i 0)) (same (drop (i + 1) k) (drop (i + 1) l)) ≡ same k l
+  comparing-cons : i < length k → (eqb (getD k i 0) (getD l i 0) && same (drop (i + 1) k) (drop (i + 1) l)) ≡ same k l
   unfolding same
   comparing-cons h = rw (add-one i) (rw (drop-cons k i 0 h, drop-cons l i 0 (omega (arith, so .long))) at (so .left))
 

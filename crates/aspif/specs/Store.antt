@@ -14,11 +14,11 @@ use Rattle.aspif_lines.specs.Text.{Read, got, bad, nil, ruleLine, Minimise, min
 use Rattle.aspif_lines.specs.Seen.{bytesAt}
 use Rattle.aspif.specs.declared.table.Counts.{Counts}
 use Rattle.aspif.specs.declared.add.Turn.{Turn}
-use Rattle.aspif.specs.declared.add.Turn.the-variants.{Stop, Last, Goes}
+use Rattle.aspif.specs.declared.add.Turn.the-variants as turn
 use Rattle.aspif.specs.declared.text.Onward.{Onward}
-use Rattle.aspif.specs.declared.text.Onward.the-variants.{Refuse, Accept, On}
+use Rattle.aspif.specs.declared.text.Onward.the-variants as onward
 use Rattle.aspif.specs.declared.text.Verdict.{Verdict}
-use Rattle.aspif.specs.declared.text.Verdict.the-variants.{Taken, Refused}
+use Rattle.aspif.specs.declared.text.Verdict.the-variants as verdict
 use Rattle.aspif.specs.declared.text.Loading.{Loading}
 use Rattle.aspif.specs.declared.text.Loading.the-variants.{Accepted, RefusedAt}
 use Rattle.aspif.specs.declared.text.Stored.{Stored}
@@ -75,9 +75,9 @@ pub record RuleAdded (pool : List ℤ) (rules : List ℕ) (pool′ : List ℤ) (
   pub longRules : length rules′ ≡ length rules
 
 abbrev pub AddedRule : List ℤ → List ℕ → List ℤ → List ℕ → Counts → ℕ → List ℕ → Turn → Type 0
-AddedRule pool rules pool′ rules′ n end l (Stop c) = ruleLine l ≡ bad c
-AddedRule pool rules pool′ rules′ n end l (Last m) = ⊥
-AddedRule pool rules pool′ rules′ n end l (Goes m) = RuleAdded pool rules pool′ rules′ n end l m
+AddedRule pool rules pool′ rules′ n end l (turn.Refused c) = ruleLine l ≡ bad c
+AddedRule pool rules pool′ rules′ n end l (turn.Last m) = ⊥
+AddedRule pool rules pool′ rules′ n end l (turn.Goes m) = RuleAdded pool rules pool′ rules′ n end l m
 
 abbrev pub minimiseCounts : Counts → ℕ → ℕ → ℕ → ℕ → Counts
 minimiseCounts n entries levels top end =
@@ -96,9 +96,9 @@ pub record MinimiseAdded (ps ls : List ℤ) (ws : List ℕ) (levels ps′ ls′ 
   pub longLevels : length levels′ ≡ length levels
 
 abbrev pub AddedMinimise : List ℤ → List ℤ → List ℕ → List ℤ → List ℤ → List ℤ → List ℕ → List ℤ → Counts → ℕ → List ℕ → Turn → Type 0
-AddedMinimise ps ls ws levels ps′ ls′ ws′ levels′ n end l (Stop c) = minimiseLine l ≡ bad c
-AddedMinimise ps ls ws levels ps′ ls′ ws′ levels′ n end l (Last m) = ⊥
-AddedMinimise ps ls ws levels ps′ ls′ ws′ levels′ n end l (Goes m) = MinimiseAdded ps ls ws levels ps′ ls′ ws′ levels′ n end l m
+AddedMinimise ps ls ws levels ps′ ls′ ws′ levels′ n end l (turn.Refused c) = minimiseLine l ≡ bad c
+AddedMinimise ps ls ws levels ps′ ls′ ws′ levels′ n end l (turn.Last m) = ⊥
+AddedMinimise ps ls ws levels ps′ ls′ ws′ levels′ n end l (turn.Goes m) = MinimiseAdded ps ls ws levels ps′ ls′ ws′ levels′ n end l m
 
 abbrev pub symbolCounts : Counts → ℕ → ℕ → ℕ → ℕ → Counts
 symbolCounts n conditions names top end =
@@ -115,9 +115,9 @@ pub record SymbolAdded (text : List ℕ) (conditions : List ℤ) (symbols : List
   pub longSymbols : length symbols′ ≡ length symbols
 
 abbrev pub AddedSymbol : List ℕ → List ℤ → List ℕ → List ℤ → List ℕ → Counts → ℕ → List ℕ → Turn → Type 0
-AddedSymbol text conditions symbols conditions′ symbols′ n end l (Stop c) = symbolLine l ≡ bad c
-AddedSymbol text conditions symbols conditions′ symbols′ n end l (Last m) = ⊥
-AddedSymbol text conditions symbols conditions′ symbols′ n end l (Goes m) = SymbolAdded text conditions symbols conditions′ symbols′ n end l m
+AddedSymbol text conditions symbols conditions′ symbols′ n end l (turn.Refused c) = symbolLine l ≡ bad c
+AddedSymbol text conditions symbols conditions′ symbols′ n end l (turn.Last m) = ⊥
+AddedSymbol text conditions symbols conditions′ symbols′ n end l (turn.Goes m) = SymbolAdded text conditions symbols conditions′ symbols′ n end l m
 
 abbrev pub finalCounts : Counts → ℕ → Counts
 finalCounts n end =
@@ -125,7 +125,7 @@ finalCounts n end =
 
 -- the `0` line, a comment, or a kind that is not read
 abbrev pub otherTurn : ℕ → List ℕ → Counts → ℕ → Turn
-otherTurn kind l n end = pick (eqb kind 0) (pick (nil l) (Last (finalCounts n end)) (Stop 2)) (pick (eqb kind 10) (Goes n) (Stop 3))
+otherTurn kind l n end = pick (eqb kind 0) (pick (nil l) (turn.Last (finalCounts n end)) (turn.Refused 2)) (pick (eqb kind 10) (turn.Goes n) (turn.Refused 3))
 
 -- ---- all tables
 
@@ -188,55 +188,55 @@ pub record Sound (t : Lists) (n : Counts) : Type 0 where
 -- ---- one line
 
 abbrev pub seenTurn : Lists → Turn → Step
-seenTurn t (Stop c) = stop c
-seenTurn t (Last n) = last (readingOf t n)
-seenTurn t (Goes n) = goes (readingOf t n)
+seenTurn t (turn.Refused c) = stop c
+seenTurn t (turn.Last n) = last (readingOf t n)
+seenTurn t (turn.Goes n) = goes (readingOf t n)
 
 abbrev pub TurnAfter : Lists → ℕ → Turn → Type 0
-TurnAfter t end (Stop c) = Unit {0}
-TurnAfter t end (Last n) = Sound t n × (n .text ≤ end)
-TurnAfter t end (Goes n) = Sound t n × (n .text ≤ end)
+TurnAfter t end (turn.Refused c) = Unit {0}
+TurnAfter t end (turn.Last n) = Sound t n × (n .text ≤ end)
+TurnAfter t end (turn.Goes n) = Sound t n × (n .text ≤ end)
 
 -- After the line's fields: its byte 10 at `end` of a text of so many bytes, what follows it, the limits.
 abbrev pub onwardOf : Turn → ℕ → ℕ → Onward
-onwardOf (Stop c) end size = Refuse c 0
-onwardOf (Last n) end size = pick (eqb end size) (Refuse 2 0) (pick (eqb (end + 1) size) (Accept n) (Refuse 2 1))
-onwardOf (Goes n) end size =
-    pick (eqb end size) (Refuse 2 0)
-    (pick (limits (n .rules) (n .used) (n .entries) (n .levels) (n .symbols) (n .conditions) (n .names)) (On n (end + 1)) (Refuse 5 0))
+onwardOf (turn.Refused c) end size = onward.Refused c 0
+onwardOf (turn.Last n) end size = pick (eqb end size) (onward.Refused 2 0) (pick (eqb (end + 1) size) (onward.Accept n) (onward.Refused 2 1))
+onwardOf (turn.Goes n) end size =
+    pick (eqb end size) (onward.Refused 2 0)
+    (pick (limits (n .rules) (n .used) (n .entries) (n .levels) (n .symbols) (n .conditions) (n .names)) (onward.On n (end + 1)) (onward.Refused 5 0))
 
 -- What one line leads to, on line m of the text s.
 abbrev pub seenOnward : List ℕ → Lists → ℕ → Onward → Answer
-seenOnward s t m (Refuse c later) = refused c (m + later)
-seenOnward s t m (Accept n) = accepted (readingOf t n .program) (readingOf t n .text)
-seenOnward s t m (On n at) = lines (m + 1) (readingOf t n) (pieces (drop at s))
+seenOnward s t m (onward.Refused c later) = refused c (m + later)
+seenOnward s t m (onward.Accept n) = accepted (readingOf t n .program) (readingOf t n .text)
+seenOnward s t m (onward.On n at) = lines (m + 1) (readingOf t n) (pieces (drop at s))
 
 abbrev pub OnwardAfter : List ℕ → Lists → ℕ → Onward → Type 0
-OnwardAfter s t at (Refuse c later) = later ≤ 1
-OnwardAfter s t at (Accept n) = Sound t n
-OnwardAfter s t at (On n next) = Sound t n × Within n × (at < next) × (next ≤ length s) × (n .text ≤ next)
+OnwardAfter s t at (onward.Refused c later) = later ≤ 1
+OnwardAfter s t at (onward.Accept n) = Sound t n
+OnwardAfter s t at (onward.On n next) = Sound t n × Within n × (at < next) × (next ≤ length s) × (n .text ≤ next)
 
 -- ---- the whole text
 
 abbrev pub seenVerdict : Lists → Verdict → Answer
-seenVerdict t (Taken n) = accepted (readingOf t n .program) (readingOf t n .text)
-seenVerdict t (Refused c m) = refused c m
+seenVerdict t (verdict.Taken n) = accepted (readingOf t n .program) (readingOf t n .text)
+seenVerdict t (verdict.Refused c m) = refused c m
 
 abbrev pub VerdictAfter : Lists → Verdict → Type 0
-VerdictAfter t (Taken n) = Sound t n
-VerdictAfter t (Refused c m) = Unit {0}
+VerdictAfter t (verdict.Taken n) = Sound t n
+VerdictAfter t (verdict.Refused c m) = Unit {0}
 
 -- nothing but so many bytes of text
 abbrev pub noCounts : ℕ → Counts
 noCounts used = record { rules = 0; used = 0; entries = 0; levels = 0; symbols = 0; conditions = 0; names = 0; text = used; atoms = 0 }
 
 abbrev pub countsOf : Verdict → Counts
-countsOf (Taken n) = n
-countsOf (Refused c m) = noCounts 0
+countsOf (verdict.Taken n) = n
+countsOf (verdict.Refused c m) = noCounts 0
 
 abbrev pub answerFor : Verdict → Loading
-answerFor (Taken n) = Accepted
-answerFor (Refused c m) = RefusedAt c m
+answerFor (verdict.Taken n) = Accepted
+answerFor (verdict.Refused c m) = RefusedAt c m
 
 -- ---- the stored program
 

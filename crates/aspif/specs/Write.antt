@@ -16,14 +16,3 @@ writtenOf size room = pick (ltb room size) (Short size) (Length size)
 -- the buffer after it: the text at its front and the rest as before, or all as before
 abbrev pub bufferOf : List ℕ → List ℕ → List ℕ
 bufferOf t b = pick (ltb (length b) (length t)) b (t ++ drop (length t) b)
-
--- document 01's numbers for a write's answer
-pub data Writing : Type 0 where
-  -- the length of what was written
-  written : ℕ → Writing
-  -- a refusal's number, and the needed length
-  refusedWith : ℕ → ℕ → Writing
-
-abbrev pub writingOf : Written → Writing
-writingOf (Length n) = written n
-writingOf (Short n) = refusedWith 8 n

@@ -6,6 +6,13 @@ use super::table::push_row;
 use aspif_lines::field::is_ended;
 use aspif_lines::minimise::MinimiseLine;
 use aspif_lines::minimise::read_minimise;
+use aspif_lines::room::Conditions;
+use aspif_lines::room::Literals;
+use aspif_lines::room::Pool;
+use aspif_lines::room::Priorities;
+use aspif_lines::room::Rules;
+use aspif_lines::room::Symbols;
+use aspif_lines::room::Weights;
 use aspif_lines::rule::RuleLine;
 use aspif_lines::rule::read_rule;
 use aspif_lines::symbol::SymbolLine;
@@ -20,7 +27,7 @@ ghost use Rattle.aspif.specs.Store.{Within, RulesSound, SymbolsSound, De
 
 // What a line leads to: a refusal, the end, or the tables with its statement.
 pub enum Turn {
-    Stop { code: u32 },
+    Refused { code: u32 },
     Last { counts: Counts },
     Goes { counts: Counts },
 }
@@ -29,8 +36,8 @@ pub enum Turn {
 pub fn add_rule(
     s: &[u8],
     at: usize,
-    pool: &mut [i32; 18432],
-    rules: &mut [u16; 8196],
+    pool: &mut Pool,
+    rules: &mut Rules,
     n: Counts,
     end: usize,
 ) -> Turn
@@ -52,17 +59,13 @@ pub fn add_rule(
                 counts: Counts {
                     rules: count,
                     used: used,
-                    entries: n.entries,
-                    levels: n.levels,
-                    symbols: n.symbols,
-                    conditions: n.conditions,
-                    names: n.names,
                     text: end,
                     atoms: top,
+                    ..n
                 },
             }
         }
-        RuleLine::Unruled { code } => Turn::Stop { code: code },
+        RuleLine::Refused { code } => Turn::Refused { code: code },
     }
 }
 
@@ -70,9 +73,9 @@ pub fn add_rule(
 pub fn add_minimise(
     s: &[u8],
     at: usize,
-    priorities: &mut [i32; 1536],
-    literals: &mut [i32; 1536],
-    weights: &mut [u32; 1536],
+    priorities: &mut Priorities,
+    literals: &mut Literals,
+    weights: &mut Weights,
     levels: &mut [i32],
     n: Counts,
     end: usize,
@@ -91,19 +94,15 @@ pub fn add_minimise(
             let entries = n.entries + count;
             Turn::Goes {
                 counts: Counts {
-                    rules: n.rules,
-                    used: n.used,
                     entries: entries,
                     levels: different,
-                    symbols: n.symbols,
-                    conditions: n.conditions,
-                    names: n.names,
                     text: end,
                     atoms: top,
+                    ..n
                 },
             }
         }
-        MinimiseLine::Unminimised { code } => Turn::Stop { code: code },
+        MinimiseLine::Refused { code } => Turn::Refused { code: code },
     }
 }
 
@@ -112,8 +111,8 @@ pub fn add_symbol<'a>(
     s: &'a [u8],
     at: usize,
     text: &'a [u8],
-    conditions: &mut [i32; 3072],
-    symbols: &mut [u16; 2052],
+    conditions: &mut Conditions,
+    symbols: &mut Symbols,
     n: Counts,
     end: usize,
 ) -> Turn
@@ -135,19 +134,16 @@ pub fn add_symbol<'a>(
             let names = n.names + length;
             Turn::Goes {
                 counts: Counts {
-                    rules: n.rules,
-                    used: n.used,
-                    entries: n.entries,
-                    levels: n.levels,
                     symbols: count,
                     conditions: used,
                     names: names,
                     text: end,
                     atoms: top,
+                    ..n
                 },
             }
         }
-        SymbolLine::Nameless { code } => Turn::Stop { code: code },
+        SymbolLine::Refused { code } => Turn::Refused { code: code },
     }
 }
 
@@ -158,23 +154,13 @@ pub fn add_other(s: &[u8], at: usize, kind: u32, n: Counts, end: usize) -> Turn
     if kind == 0 {
         if is_ended(s, at) {
             return Turn::Last {
-                counts: Counts {
-                    rules: n.rules,
-                    used: n.used,
-                    entries: n.entries,
-                    levels: n.levels,
-                    symbols: n.symbols,
-                    conditions: n.conditions,
-                    names: n.names,
-                    text: end,
-                    atoms: n.atoms,
-                },
+                counts: Counts { text: end, ..n },
             };
         }
-        return Turn::Stop { code: 2 };
+        return Turn::Refused { code: 2 };
     }
     if kind == 10 {
         return Turn::Goes { counts: n };
     }
-    Turn::Stop { code: 3 }
+    Turn::Refused { code: 3 }
 }

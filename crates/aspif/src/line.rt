@@ -6,8 +6,16 @@ use super::add::add_rule;
 use super::add::add_symbol;
 use super::table::Counts;
 use aspif_lines::field::Number;
-use aspif_lines::field::code_of;
 use aspif_lines::field::read_number;
+use aspif_lines::room::Conditions;
+use aspif_lines::room::Levels;
+use aspif_lines::room::Literals;
+use aspif_lines::room::Pool;
+use aspif_lines::room::Priorities;
+use aspif_lines::room::Rules;
+use aspif_lines::room::Symbols;
+use aspif_lines::room::Text;
+use aspif_lines::room::Weights;
 ghost use mathlib.Core.Path.{_≡_};
 ghost use mathlib.Core.List.{_∷_, _++_};
 ghost use Prim.Native.Nat.{ℕ, _+_, _-_, _<_, _≤_};
@@ -15,6 +23,8 @@ ghost use lib.ListN.{length, take, drop};
 ghost use Rattle.aspif_lines.specs.Text.{pieces, line, stepped};
 ghost use Rattle.aspif_lines.specs.Seen.{follow, bytesAt, Kept};
 ghost use Rattle.aspif.specs.Store.{lists, Sound, Within, readingOf, seenTurn, TurnAfter};
+
+const MOST_KIND: u32 = 10; // document 01: "the kind, 0 to 10"
 
 // The position of the next byte 10, or of the end.
 pub fn line_end(s: &[u8], at: usize) -> usize
@@ -50,24 +60,24 @@ pub fn append_line(text: &mut [u8], used: usize, s: &[u8]) -> usize
 // A line, without its byte 10. It is stored first, since a symbol's name is a part of the stored text; a comment leaves the text at its old length.
 pub fn take_line(
     s: &[u8],
-    text: &mut [u8; 65537],
-    pool: &mut [i32; 18432],
-    rules: &mut [u16; 8196],
-    priorities: &mut [i32; 1536],
-    literals: &mut [i32; 1536],
-    weights: &mut [u32; 1536],
-    levels: &mut [i32; 9],
-    conditions: &mut [i32; 3072],
-    symbols: &mut [u16; 2052],
+    text: &mut Text,
+    pool: &mut Pool,
+    rules: &mut Rules,
+    priorities: &mut Priorities,
+    literals: &mut Literals,
+    weights: &mut Weights,
+    levels: &mut Levels,
+    conditions: &mut Conditions,
+    symbols: &mut Symbols,
     n: Counts,
 ) -> Turn
     requires { ⌜ Sound (lists (now text) (now pool) (now rules) (now priorities) (now literals) (now weights) (now levels) (now conditions) (now symbols)) n × Within n × (n .text + length (now s) ≤ 65536) ⌝ }
     ensures { λ r. ⌜ (seenTurn (lists (now (text .exit)) (now (pool .exit)) (now (rules .exit)) (now (priorities .exit)) (now (literals .exit)) (now (weights .exit)) (now (levels .exit)) (now (conditions .exit)) (now (symbols .exit))) r ≡ stepped (now (s .entry)) (readingOf (lists (now (text .entry)) (now (pool .entry)) (now (rules .entry)) (now (priorities .entry)) (now (literals .entry)) (now (weights .entry)) (now (levels .entry)) (now (conditions .entry)) (now (symbols .entry))) n)) × TurnAfter (lists (now (text .exit)) (now (pool .exit)) (now (rules .exit)) (now (priorities .exit)) (now (literals .exit)) (now (weights .exit)) (now (levels .exit)) (now (conditions .exit)) (now (symbols .exit))) (n .text + length (now (s .entry)) + 1) r ⌝ }
 {
     let end = append_line(text, n.text, s);
-    let k = read_number(s, 0, 0, 10);
+    let k = read_number(s, 0, 0, MOST_KIND);
     let Number::Value { value: kind, next } = k else {
-        return Turn::Stop { code: code_of(k) };
+        return Turn::Refused { code: k.code() };
     };
     if kind == 1 {
         return add_rule(s, next, pool, rules, n, end);

@@ -5,15 +5,33 @@ use super::line::line_end;
 use super::line::take_line;
 use super::table::Counts;
 use super::table::fits;
+use aspif_lines::room::CONDITION_ROOM;
+use aspif_lines::room::Conditions;
+use aspif_lines::room::ENTRY_ROOM;
+use aspif_lines::room::LEVEL_ROOM;
+use aspif_lines::room::Levels;
+use aspif_lines::room::Literals;
+use aspif_lines::room::POOL_ROOM;
+use aspif_lines::room::Pool;
+use aspif_lines::room::Priorities;
+use aspif_lines::room::RULE_ROOM;
+use aspif_lines::room::Rules;
+use aspif_lines::room::SYMBOL_ROOM;
+use aspif_lines::room::Symbols;
+use aspif_lines::room::TEXT_ROOM;
+use aspif_lines::room::Text;
+use aspif_lines::room::Weights;
 ghost use mathlib.Core.Path.{_≡_};
 ghost use Prim.Native.Nat.{ℕ, _+_, _<_, _≤_};
 ghost use lib.ListN.{length, drop};
 ghost use Rattle.aspif_lines.specs.Text.{same, header, textOf, lines, pieces};
 ghost use Rattle.aspif.specs.Store.{lists, Sized, Sound, Within, readingOf, onwardOf, seenOnward, OnwardAfter, seenVerdict, VerdictAfter, noCounts, countsOf, answerFor, answerOf, StoredAfter};
 
+const MOST_BYTES: usize = 65536; // document 01: "At most 65,536 bytes."
+
 // What one line leads to: a refusal on it or on the next, the end, or the next line.
 pub enum Onward {
-    Refuse { code: u32, later: usize },
+    Refused { code: u32, later: usize },
     Accept { counts: Counts },
     On { counts: Counts, at: usize },
 }
@@ -24,22 +42,22 @@ fn after_line(t: Turn, end: usize, length: usize) -> Onward
     ensures { λ r. ⌜ r ≡ onwardOf t end length ⌝ }
 {
     match t {
-        Turn::Stop { code } => Onward::Refuse {
+        Turn::Refused { code } => Onward::Refused {
             code: code,
             later: 0,
         },
         Turn::Last { counts } => {
             if end == length {
-                return Onward::Refuse { code: 2, later: 0 };
+                return Onward::Refused { code: 2, later: 0 };
             }
             if end + 1 == length {
                 return Onward::Accept { counts: counts };
             }
-            Onward::Refuse { code: 2, later: 1 }
+            Onward::Refused { code: 2, later: 1 }
         }
         Turn::Goes { counts } => {
             if end == length {
-                return Onward::Refuse { code: 2, later: 0 };
+                return Onward::Refused { code: 2, later: 0 };
             }
             if fits(counts) {
                 let next = end + 1;
@@ -48,7 +66,7 @@ fn after_line(t: Turn, end: usize, length: usize) -> Onward
                     at: next,
                 };
             }
-            Onward::Refuse { code: 5, later: 0 }
+            Onward::Refused { code: 5, later: 0 }
         }
     }
 }
@@ -57,15 +75,15 @@ fn after_line(t: Turn, end: usize, length: usize) -> Onward
 fn one_line(
     s: &[u8],
     at: usize,
-    text: &mut [u8; 65537],
-    pool: &mut [i32; 18432],
-    rules: &mut [u16; 8196],
-    priorities: &mut [i32; 1536],
-    literals: &mut [i32; 1536],
-    weights: &mut [u32; 1536],
-    levels: &mut [i32; 9],
-    conditions: &mut [i32; 3072],
-    symbols: &mut [u16; 2052],
+    text: &mut Text,
+    pool: &mut Pool,
+    rules: &mut Rules,
+    priorities: &mut Priorities,
+    literals: &mut Literals,
+    weights: &mut Weights,
+    levels: &mut Levels,
+    conditions: &mut Conditions,
+    symbols: &mut Symbols,
     n: Counts,
 ) -> Onward
     requires { ⌜ Sound (lists (now text) (now pool) (now rules) (now priorities) (now literals) (now weights) (now levels) (now conditions) (now symbols)) n × Within n × (n .text ≤ at) × (at ≤ length (now s)) × (length (now s) ≤ 65536) ⌝ }
@@ -100,15 +118,15 @@ pub enum Verdict {
 fn read_lines(
     s: &[u8],
     from: usize,
-    text: &mut [u8; 65537],
-    pool: &mut [i32; 18432],
-    rules: &mut [u16; 8196],
-    priorities: &mut [i32; 1536],
-    literals: &mut [i32; 1536],
-    weights: &mut [u32; 1536],
-    levels: &mut [i32; 9],
-    conditions: &mut [i32; 3072],
-    symbols: &mut [u16; 2052],
+    text: &mut Text,
+    pool: &mut Pool,
+    rules: &mut Rules,
+    priorities: &mut Priorities,
+    literals: &mut Literals,
+    weights: &mut Weights,
+    levels: &mut Levels,
+    conditions: &mut Conditions,
+    symbols: &mut Symbols,
     first: Counts,
 ) -> Verdict
     requires { ⌜ Sound (lists (now text) (now pool) (now rules) (now priorities) (now literals) (now weights) (now levels) (now conditions) (now symbols)) first × Within first × (first .text ≤ from) × (2 ≤ from) × (from ≤ length (now s)) × (length (now s) ≤ 65536) ⌝ }
@@ -133,7 +151,7 @@ fn read_lines(
             n,
         );
         match o {
-            Onward::Refuse { code, later } => {
+            Onward::Refused { code, later } => {
                 let found = line + later;
                 return Verdict::Refused {
                     code: code,
@@ -196,20 +214,20 @@ fn no_counts(used: usize) -> Counts
 // The whole text into the tables.
 fn read_text(
     s: &[u8],
-    text: &mut [u8; 65537],
-    pool: &mut [i32; 18432],
-    rules: &mut [u16; 8196],
-    priorities: &mut [i32; 1536],
-    literals: &mut [i32; 1536],
-    weights: &mut [u32; 1536],
-    levels: &mut [i32; 9],
-    conditions: &mut [i32; 3072],
-    symbols: &mut [u16; 2052],
+    text: &mut Text,
+    pool: &mut Pool,
+    rules: &mut Rules,
+    priorities: &mut Priorities,
+    literals: &mut Literals,
+    weights: &mut Weights,
+    levels: &mut Levels,
+    conditions: &mut Conditions,
+    symbols: &mut Symbols,
 ) -> Verdict
     requires { ⌜ Sized (lists (now text) (now pool) (now rules) (now priorities) (now literals) (now weights) (now levels) (now conditions) (now symbols)) ⌝ }
     ensures { λ r. ⌜ (seenVerdict (lists (now (text .exit)) (now (pool .exit)) (now (rules .exit)) (now (priorities .exit)) (now (literals .exit)) (now (weights .exit)) (now (levels .exit)) (now (conditions .exit)) (now (symbols .exit))) r ≡ textOf (now (s .entry))) × VerdictAfter (lists (now (text .exit)) (now (pool .exit)) (now (rules .exit)) (now (priorities .exit)) (now (literals .exit)) (now (weights .exit)) (now (levels .exit)) (now (conditions .exit)) (now (symbols .exit))) r ⌝ }
 {
-    if 65536 < s.len() {
+    if MOST_BYTES < s.len() {
         return Verdict::Refused { code: 5, line: 0 };
     }
     let end = line_end(s, 0);
@@ -241,15 +259,15 @@ fn read_text(
 
 // A program as it is stored: its tables, and how far each is filled. The text is that of the load less its comment lines.
 pub struct Stored {
-    pub text: [u8; 65537],
-    pub pool: [i32; 18432],
-    pub rules: [u16; 8196],
-    pub priorities: [i32; 1536],
-    pub literals: [i32; 1536],
-    pub weights: [u32; 1536],
-    pub levels: [i32; 9],
-    pub conditions: [i32; 3072],
-    pub symbols: [u16; 2052],
+    pub text: Text,
+    pub pool: Pool,
+    pub rules: Rules,
+    pub priorities: Priorities,
+    pub literals: Literals,
+    pub weights: Weights,
+    pub levels: Levels,
+    pub conditions: Conditions,
+    pub symbols: Symbols,
     pub counts: Counts,
 }
 
@@ -289,15 +307,15 @@ fn answer_of(v: Verdict) -> Loading
 pub fn load(s: &[u8]) -> Loaded
     ensures { λ r. ⌜ (answerOf (r .stored) (r .answer) ≡ textOf (now (s .entry))) × StoredAfter (r .stored) (r .answer) ⌝ }
 {
-    let mut text = [0u8; 65537];
-    let mut pool = [0i32; 18432];
-    let mut rules = [0u16; 8196];
-    let mut priorities = [0i32; 1536];
-    let mut literals = [0i32; 1536];
-    let mut weights = [0u32; 1536];
-    let mut levels = [0i32; 9];
-    let mut conditions = [0i32; 3072];
-    let mut symbols = [0u16; 2052];
+    let mut text = [0u8; TEXT_ROOM];
+    let mut pool = [0i32; POOL_ROOM];
+    let mut rules = [0u16; RULE_ROOM];
+    let mut priorities = [0i32; ENTRY_ROOM];
+    let mut literals = [0i32; ENTRY_ROOM];
+    let mut weights = [0u32; ENTRY_ROOM];
+    let mut levels = [0i32; LEVEL_ROOM];
+    let mut conditions = [0i32; CONDITION_ROOM];
+    let mut symbols = [0u16; SYMBOL_ROOM];
     let verdict = read_text(
         s,
         &mut text,

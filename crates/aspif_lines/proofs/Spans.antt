@@ -1,6 +1,6 @@
 -- Parts of tables, and lists read one by one. Assumes nothing.
 use mathlib.Core.Path.{_≡_, refl, sym, ap, ap₂, _∙_}
-use mathlib.Core.Bool.{Bool, true, false}
+use mathlib.Core.Bool.{Bool, true, false, _&&_}
 use mathlib.Core.List.{List, [], _∷_, _++_, map}
 use Prim.Native.Nat.{ℕ, zero, suc, _+_, _-_, _*_, _<_, _≤_, max}
 use native.Mathlib.Omega.{arith}
@@ -11,7 +11,7 @@ use lib.IntN.{ℤ, pos, natAbs}
 use lib.ListN.{length, getD, set, length-set}
 use lib.Seq.{getD-set-same, getD-set-other}
 use Rattle.asp.specs.Program.{Entry, highest}
-use Rattle.aspif_lines.specs.Text.{both, next, nameByte, within, Read, got, bad, bind, more}
+use Rattle.aspif_lines.specs.Text.{next, nameByte, within, Read, got, bad, bind, more}
 use Rattle.asp.specs.Tables.{Row, rowAt, entryAt, span, literalsAt}
 use Rattle.aspif_lines.specs.Seen.{Pushed, entriesAt, bytesAt, Kept}
 
@@ -135,7 +135,7 @@ unfolding highest
 highest-none f n = omega arith
 
 -- a plain head has one atom at most
-pub single : (h m : ℕ) → h ≤ 1 → eqb h 1 ≡ false → both (eqb h 0) (ltb 1 m) ≡ false → m ≤ 1
+pub single : (h m : ℕ) → h ≤ 1 → eqb h 1 ≡ false → (eqb h 0 && ltb 1 m) ≡ false → m ≤ 1
 single h m l e f =
     let a : h ≡ 0 = go (eqb-false h 1 e) in
     ltb-false 1 m (rw (eq-eqb h 0 a) at f)

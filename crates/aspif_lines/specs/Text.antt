@@ -1,6 +1,6 @@
 -- What a text is: its refusal and line, or its program and the text less its comment lines.
 -- Document 01, "The text" and "Refused because of what was handed in", whose sentences stand here as comments. Assumes nothing: these are definitions.
-use mathlib.Core.Bool.{Bool, true, false, not}
+use mathlib.Core.Bool.{Bool, true, false, not, _&&_}
 use mathlib.Core.List.{List, [], _∷_, _++_, map}
 use Prim.Native.Nat.{ℕ, zero, suc, _+_, _-_, _*_}
 use lib.Dec.{leb, ltb, eqb}
@@ -11,10 +11,6 @@ use Rattle.asp.specs.Sets.{pick}
 use Rattle.asp.specs.Literal.{sameℤ}
 use Rattle.asp.specs.Program.{Literal, Body, normal, Head, constraint, plain, choice, Rule, Entry, Symbol, Program}
 use Rattle.asp.specs.Tables.{named, plainHead}
-
-abbrev pub both : Bool → Bool → Bool
-both true b = b
-both false b = false
 
 -- Reading in a line gives a value and what follows it in the line, or the number of a refusal.
 pub data Read (A : Type 0) : Type 0 where
@@ -33,7 +29,7 @@ next l = getD l 0 0
 -- ---- numbers: "each number by form, range, accepted part"
 
 abbrev pub within : ℕ → ℕ → ℕ → Bool
-within lo hi n = both (leb lo n) (leb n hi)
+within lo hi n = leb lo n && leb n hi
 
 abbrev pub isDigit : ℕ → Bool
 isDigit b = within 48 57 b
@@ -59,22 +55,38 @@ nil (b ∷ l) = false
 
 -- "A number is decimal with no leading zero": n digits, at least one, that make up the whole field
 abbrev pub formed : ℕ → List ℕ → Bool
-formed n l = both (ltb 0 n) (both (not (both (eqb (next l) 48) (ltb 1 n))) (over (drop n l)))
+formed n l = ltb 0 n && (not (eqb (next l) 48 && ltb 1 n) && over (drop n l))
 
 -- the form. "A place where a number is due and none stands is refusal 2."
 unfoldable pub token : List ℕ → Read ℕ
 token l = pick (formed (length (digits l)) l) (got (decimal 0 (digits l)) (drop (length (digits l)) l)) (bad 2)
 
--- the range, lo to hi: "4: a number out of range". With no minus: "elsewhere any minus is" malformed.
-unfoldable pub number : ℕ → ℕ → List ℕ → Read ℕ
-number lo hi l = bind (token l) (λ v r. pick (within lo hi v) (got v r) (bad 4))
+-- the range, lo to hi: "4: a number out of range"
+abbrev pub ranged : ℕ → ℕ → ℕ → List ℕ → Read ℕ
+ranged lo hi v r = pick (within lo hi v) (got v r) (bad 4)
 
--- "where a minus is allowed, `-0` is malformed": from -hi to hi
+-- with no minus: "elsewhere any minus is" malformed
+unfoldable pub number : ℕ → ℕ → List ℕ → Read ℕ
+number lo hi l = bind (token l) (ranged lo hi)
+
+-- digits after a minus or without one; "where a minus is allowed, `-0` is malformed"
+abbrev pub withSign : Bool → ℕ → ℤ
+withSign true v = negℤ (pos v)
+withSign false v = pos v
+
+abbrev pub signing : Bool → ℕ → List ℕ → Read ℤ
+signing minus v r = pick (minus && eqb v 0) (bad 2) (got (withSign minus v) r)
+
+-- the form of a number that may have a minus
+unfoldable pub signedToken : List ℕ → Read ℤ
+signedToken l = pick (eqb (next l) 45) (bind (token (drop 1 l)) (signing true)) (bind (token l) (signing false))
+
+-- its range, -hi to hi
+abbrev pub signedUpTo : ℕ → ℤ → List ℕ → Read ℤ
+signedUpTo hi z r = pick (leb (natAbs z) hi) (got z r) (bad 4)
+
 unfoldable pub signed : ℕ → List ℕ → Read ℤ
-signed hi l =
-    pick (eqb (next l) 45)
-    (bind (number 0 hi (drop 1 l)) (λ v r. pick (eqb v 0) (bad 2) (got (negℤ (pos v)) r)))
-    (bind (number 0 hi l) (λ v r. got (pos v) r))
+signed hi l = bind (signedToken l) (signedUpTo hi)
 
 -- "Fields are parted by one space": a field that is not the first of its line
 abbrev pub field : {A : Type 0} → (List ℕ → Read A) → List ℕ → Read A
@@ -117,7 +129,7 @@ unfoldable pub opening : List ℕ → Read Opening
 opening l =
     bind (natural 0 1 l) (λ h l.
     bind (natural 0 1024 l) (λ m l.
-    pick (both (eqb h 0) (ltb 1 m)) (bad 3) (got (record { choice = eqb h 1; count = m }) l)))
+    pick (eqb h 0 && ltb 1 m) (bad 3) (got (record { choice = eqb h 1; count = m }) l)))
 
 -- `b k`: "b is 0"; "3: .. b = 1"
 unfoldable pub bodyCount : List ℕ → Read ℕ
@@ -252,8 +264,8 @@ nameSize s = length (s .name)
 
 abbrev pub limits : ℕ → ℕ → ℕ → ℕ → ℕ → ℕ → ℕ → Bool
 limits rules literals entries priorities symbols conditions names =
-    both (leb rules 2048) (both (leb literals 16384) (both (leb entries 512) (both (leb priorities 8)
-    (both (leb symbols 512) (both (leb conditions 2048) (leb names 16384))))))
+    leb rules 2048 && leb literals 16384 && leb entries 512 && leb priorities 8
+    && leb symbols 512 && leb conditions 2048 && leb names 16384
 
 unfoldable pub fits : Program → Bool
 fits p =
@@ -326,7 +338,7 @@ unfoldable pub same : List ℕ → List ℕ → Bool
 same [] [] = true
 same [] (b ∷ l) = false
 same (a ∷ k) [] = false
-same (a ∷ k) (b ∷ l) = both (eqb a b) (same k l)
+same (a ∷ k) (b ∷ l) = eqb a b && same k l
 
 abbrev pub none : Program
 none = record { rules = []; priorities = []; entries = []; symbols = [] }

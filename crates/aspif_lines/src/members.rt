@@ -1,6 +1,5 @@
 // Counted lists: the atoms of a head, the literals of a body or a condition, stored in a pool.
 use super::field::Signed;
-use super::field::denial_of;
 use super::field::read_atom;
 use super::field::read_literal;
 use asp::literal::atom;
@@ -10,20 +9,23 @@ ghost use Prim.Native.Nat.{ℕ, _+_, _<_, _≤_, max};
 ghost use lib.ListN.{length, drop};
 ghost use lib.IntN.{ℤ, pos, natAbs};
 ghost use Rattle.aspif_lines.specs.Text.{member, more};
-ghost use Rattle.aspif_lines.specs.Seen.{seenSigned, Small, seenLits, TopOf, Kept, stopOf};
+ghost use Rattle.aspif_lines.specs.Seen.{refusal, seenSigned, Small, seenLits, TopOf, Kept};
 
 // A list read up to a position, with the highest atom so far; or the refusal in it.
 pub enum Listed {
     Upto { next: usize, top: usize },
-    Stopped { code: u32 },
+    Refused { code: u32 },
 }
 
-pub fn stop_of(n: Listed) -> u32
-    ensures { λ r. ⌜ r ≡ stopOf n ⌝ }
-{
-    match n {
-        Listed::Upto { next: _, top: _ } => 2,
-        Listed::Stopped { code } => code,
+impl Listed {
+    // The number of the refusal; 0, none.
+    pub fn code(self) -> u32
+        ensures { λ r. ⌜ r ≡ refusal (seenLits [] [] 0 0 self) ⌝ }
+    {
+        match self {
+            Listed::Refused { code } => code,
+            _ => 0,
+        }
     }
 }
 
@@ -66,7 +68,7 @@ pub fn read_members(
     while i < k {
         let m = read_member(s, p, head);
         let Signed::Whole { value, next } = m else {
-            return Listed::Stopped { code: denial_of(m) };
+            return Listed::Refused { code: m.code() };
         };
         let j = used + i;
         pool[j] = value;

@@ -1,23 +1,28 @@
 // `2 p k` and k pairs of literal and weight: minimise at priority p.
+use super::field::MOST_COUNT;
 use super::field::Number;
 use super::field::Signed;
-use super::field::code_of;
-use super::field::denial_of;
 use super::field::is_ended;
 use super::field::read_literal;
 use super::field::read_natural;
-use super::field::read_signed_field;
+use super::field::read_signed;
 use super::field::size;
 use super::members::Listed;
 use super::members::higher;
-use super::members::stop_of;
+use super::room::Literals;
+use super::room::Priorities;
+use super::room::Weights;
 ghost use mathlib.Core.Path.{_≡_};
 ghost use mathlib.Core.List.{[]};
 ghost use Prim.Native.Nat.{ℕ, _+_, _<_, _≤_};
 ghost use lib.ListN.{length, drop};
 ghost use lib.IntN.{ℤ, pos, natAbs};
 ghost use Rattle.aspif_lines.specs.Text.{more, pair, minimiseLine};
-ghost use Rattle.aspif_lines.specs.Seen.{seenPair, PairSmall, unpairedOf, seenEntries, TopOf, seenMinimise, MinimiseSmall, MinimiseTop, Kept};
+ghost use Rattle.aspif_lines.specs.Seen.{refusal, seenPair, PairSmall, seenEntries, TopOf, seenMinimise, MinimiseSmall, MinimiseTop, Kept};
+
+const MOST_PRIORITY: u32 = 1000; // document 01: "p from -1,000 to 1,000 (signed)"
+
+const MOST_WEIGHT: u32 = 1000000; // "weight 0 to 1,000,000"
 
 // A literal and its weight.
 pub enum Pair {
@@ -26,21 +31,20 @@ pub enum Pair {
         weight: u32,
         next: usize,
     },
-    Unpaired {
+    Refused {
         code: u32,
     },
 }
 
-fn unpaired_of(n: Pair) -> u32
-    ensures { λ r. ⌜ r ≡ unpairedOf n ⌝ }
-{
-    match n {
-        Pair::Paired {
-            literal: _,
-            weight: _,
-            next: _,
-        } => 2,
-        Pair::Unpaired { code } => code,
+impl Pair {
+    // The number of the refusal; 0, none.
+    pub fn code(self) -> u32
+        ensures { λ r. ⌜ r ≡ refusal (seenPair [] (pos 0) self) ⌝ }
+    {
+        match self {
+            Pair::Refused { code } => code,
+            _ => 0,
+        }
     }
 }
 
@@ -49,11 +53,11 @@ fn read_pair(s: &[u8], at: usize) -> Pair
 {
     let l = read_literal(s, at);
     let Signed::Whole { value: z, next: a } = l else {
-        return Pair::Unpaired { code: denial_of(l) };
+        return Pair::Refused { code: l.code() };
     };
-    let n = read_natural(s, a, 0, 1000000);
+    let n = read_natural(s, a, 0, MOST_WEIGHT);
     let Number::Value { value: w, next } = n else {
-        return Pair::Unpaired { code: code_of(n) };
+        return Pair::Refused { code: n.code() };
     };
     Pair::Paired {
         literal: z,
@@ -88,9 +92,7 @@ fn read_pairs(
             next,
         } = m
         else {
-            return Listed::Stopped {
-                code: unpaired_of(m),
-            };
+            return Listed::Refused { code: m.code() };
         };
         let j = used + i;
         priorities[j] = p;
@@ -110,7 +112,7 @@ pub enum MinimiseLine {
         count: usize,
         top: usize,
     },
-    Unminimised {
+    Refused {
         code: u32,
     },
 }
@@ -118,27 +120,27 @@ pub enum MinimiseLine {
 pub fn read_minimise(
     s: &[u8],
     at: usize,
-    priorities: &mut [i32; 1536],
-    literals: &mut [i32; 1536],
-    weights: &mut [u32; 1536],
+    priorities: &mut Priorities,
+    literals: &mut Literals,
+    weights: &mut Weights,
     used: usize,
     top: usize,
 ) -> MinimiseLine
     requires { ⌜ (used + 1024 ≤ length (now priorities)) × (used + 1024 ≤ length (now literals)) × (used + 1024 ≤ length (now weights)) ⌝ }
     ensures { λ r. ⌜ (seenMinimise (now (priorities .exit)) (now (literals .exit)) (now (weights .exit)) used r ≡ minimiseLine (drop at (now (s .entry)))) × MinimiseSmall r × MinimiseTop (now (literals .exit)) used top r × Kept (pos 0) used (now (priorities .entry)) (now (priorities .exit)) × Kept (pos 0) used (now (literals .entry)) (now (literals .exit)) × Kept 0 used (now (weights .entry)) (now (weights .exit)) ⌝ }
 {
-    let f = read_signed_field(s, at, 1000);
+    let f = read_signed(s, at, MOST_PRIORITY);
     let Signed::Whole { value: p, next: a } = f else {
-        return MinimiseLine::Unminimised { code: denial_of(f) };
+        return MinimiseLine::Refused { code: f.code() };
     };
-    let n = read_natural(s, a, 0, 1024);
+    let n = read_natural(s, a, 0, MOST_COUNT);
     let Number::Value { value: k, next: b } = n else {
-        return MinimiseLine::Unminimised { code: code_of(n) };
+        return MinimiseLine::Refused { code: n.code() };
     };
     let count = size(k);
     let l = read_pairs(s, b, p, count, priorities, literals, weights, used, top);
     let Listed::Upto { next: e, top: t } = l else {
-        return MinimiseLine::Unminimised { code: stop_of(l) };
+        return MinimiseLine::Refused { code: l.code() };
     };
     if is_ended(s, e) {
         return MinimiseLine::Minimised {
@@ -147,5 +149,5 @@ pub fn read_minimise(
             top: t,
         };
     }
-    MinimiseLine::Unminimised { code: 2 }
+    MinimiseLine::Refused { code: 2 }
 }

@@ -1,19 +1,21 @@
 // `1 h m atoms b k literals`: a rule.
+use super::field::MOST_COUNT;
 use super::field::Number;
-use super::field::code_of;
 use super::field::is_ended;
 use super::field::read_natural;
 use super::field::size;
 use super::members::Listed;
 use super::members::read_members;
-use super::members::stop_of;
+use super::room::Pool;
+ghost use mathlib.Core.Bool.{_&&_};
+ghost use mathlib.Core.List.{[]};
 ghost use mathlib.Core.Path.{_≡_};
 ghost use Prim.Native.Nat.{ℕ, _+_, _<_, _≤_};
 ghost use lib.Dec.{eqb, ltb};
 ghost use lib.ListN.{length, drop};
 ghost use lib.IntN.{ℤ, pos};
-ghost use Rattle.aspif_lines.specs.Text.{both, opening, bodyCount, ruleLine};
-ghost use Rattle.aspif_lines.specs.Seen.{seenNumber, Between, seenOpens, OpensSmall, shutOf, seenRule, RuleSmall, RuleTop, Kept};
+ghost use Rattle.aspif_lines.specs.Text.{opening, bodyCount, ruleLine};
+ghost use Rattle.aspif_lines.specs.Seen.{refusal, seenNumber, Between, seenOpens, OpensSmall, seenRule, RuleSmall, RuleTop, Kept};
 
 // How a rule opens: whether it is a choice, and how many head atoms follow.
 pub enum Opens {
@@ -22,21 +24,20 @@ pub enum Opens {
         count: usize,
         next: usize,
     },
-    Shut {
+    Refused {
         code: u32,
     },
 }
 
-fn shut_of(n: Opens) -> u32
-    ensures { λ r. ⌜ r ≡ shutOf n ⌝ }
-{
-    match n {
-        Opens::Open {
-            choice: _,
-            count: _,
-            next: _,
-        } => 2,
-        Opens::Shut { code } => code,
+impl Opens {
+    // The number of the refusal; 0, none.
+    pub fn code(self) -> u32
+        ensures { λ r. ⌜ r ≡ refusal (seenOpens [] self) ⌝ }
+    {
+        match self {
+            Opens::Refused { code } => code,
+            _ => 0,
+        }
     }
 }
 
@@ -45,14 +46,14 @@ fn read_opening(s: &[u8], at: usize) -> Opens
 {
     let a = read_natural(s, at, 0, 1);
     let Number::Value { value: h, next: n } = a else {
-        return Opens::Shut { code: code_of(a) };
+        return Opens::Refused { code: a.code() };
     };
-    let b = read_natural(s, n, 0, 1024);
+    let b = read_natural(s, n, 0, MOST_COUNT);
     let Number::Value { value: m, next } = b else {
-        return Opens::Shut { code: code_of(b) };
+        return Opens::Refused { code: b.code() };
     };
     if too_many(h, m) {
-        return Opens::Shut { code: 3 };
+        return Opens::Refused { code: 3 };
     }
     Opens::Open {
         choice: h == 1,
@@ -63,9 +64,9 @@ fn read_opening(s: &[u8], at: usize) -> Opens
 
 // A plain head of more than one atom.
 fn too_many(h: u32, m: u32) -> bool
-    ensures { λ r. ⌜ r ≡ both (eqb h 0) (ltb 1 m) ⌝ }
+    ensures { λ r. ⌜ r ≡ (eqb h 0 && ltb 1 m) ⌝ }
 {
-    if h == 0 { 1 < m } else { false }
+    h == 0 && 1 < m
 }
 
 fn read_body_count(s: &[u8], at: usize) -> Number
@@ -73,12 +74,12 @@ fn read_body_count(s: &[u8], at: usize) -> Number
 {
     let a = read_natural(s, at, 0, 1);
     let Number::Value { value: b, next } = a else {
-        return Number::Refused { code: code_of(a) };
+        return Number::Refused { code: a.code() };
     };
     if b == 1 {
         return Number::Refused { code: 3 };
     }
-    read_natural(s, next, 0, 1024)
+    read_natural(s, next, 0, MOST_COUNT)
 }
 
 // A rule, its head atoms and then its body literals in the pool.
@@ -89,12 +90,12 @@ pub enum RuleLine {
         body: usize,
         top: usize,
     },
-    Unruled {
+    Refused {
         code: u32,
     },
 }
 
-pub fn read_rule(s: &[u8], at: usize, pool: &mut [i32; 18432], used: usize, top: usize) -> RuleLine
+pub fn read_rule(s: &[u8], at: usize, pool: &mut Pool, used: usize, top: usize) -> RuleLine
     requires { ⌜ used + 2048 ≤ length (now pool) ⌝ }
     ensures { λ r. ⌜ (seenRule (now (pool .exit)) used r ≡ ruleLine (drop at (now (s .entry)))) × RuleSmall r × RuleTop (now (pool .exit)) used top r × Kept (pos 0) used (now (pool .entry)) (now (pool .exit)) ⌝ }
 {
@@ -105,20 +106,20 @@ pub fn read_rule(s: &[u8], at: usize, pool: &mut [i32; 18432], used: usize, top:
         next: a,
     } = o
     else {
-        return RuleLine::Unruled { code: shut_of(o) };
+        return RuleLine::Refused { code: o.code() };
     };
     let h = read_members(s, a, true, count, pool, used, top);
     let Listed::Upto { next: b, top: t } = h else {
-        return RuleLine::Unruled { code: stop_of(h) };
+        return RuleLine::Refused { code: h.code() };
     };
     let n = read_body_count(s, b);
     let Number::Value { value: k, next: c } = n else {
-        return RuleLine::Unruled { code: code_of(n) };
+        return RuleLine::Refused { code: n.code() };
     };
     let body = size(k);
     let l = read_members(s, c, false, body, pool, used + count, t);
     let Listed::Upto { next: e, top: u } = l else {
-        return RuleLine::Unruled { code: stop_of(l) };
+        return RuleLine::Refused { code: l.code() };
     };
     if is_ended(s, e) {
         return RuleLine::Ruled {
@@ -128,5 +129,5 @@ pub fn read_rule(s: &[u8], at: usize, pool: &mut [i32; 18432], used: usize, top:
             top: u,
         };
     }
-    RuleLine::Unruled { code: 2 }
+    RuleLine::Refused { code: 2 }
 }

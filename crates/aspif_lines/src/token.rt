@@ -1,16 +1,30 @@
 // Numbers by their form: decimal digits with no leading zero that make up a whole field.
+ghost use mathlib.Core.Bool.{_&&_};
 ghost use mathlib.Core.Path.{_≡_};
 ghost use Prim.Native.Nat.{ℕ, _+_, _-_, _*_, _<_, _≤_, min};
 ghost use lib.Dec.{eqb, ltb};
 ghost use lib.ListN.{length, drop};
-ghost use Rattle.aspif_lines.specs.Text.{both, next, isDigit, digits, decimal, over, token};
-ghost use Rattle.aspif_lines.specs.Seen.{capped, seenToken};
+ghost use Rattle.aspif_lines.specs.Text.{next, isDigit, digits, decimal, over, token, field, signedToken};
+ghost use Rattle.aspif_lines.specs.Seen.{capped, seenToken, cappedSigned, seenSignedToken};
 
 // The form of a number: its value, or 1,000,001 if that is less, and the position after it.
 pub enum Token {
     Digits { value: u32, next: usize },
     Malformed,
 }
+
+// The same of a number that may have a minus.
+pub enum SignedToken {
+    Digits {
+        minus: bool,
+        value: u32,
+        next: usize,
+    },
+    Malformed,
+}
+
+// Above every range: no value of a token is greater.
+const BEYOND: u32 = 1000001;
 
 pub struct Scanned {
     pub value: u32,
@@ -24,10 +38,10 @@ pub fn byte_at(s: &[u8], i: usize) -> u8
     if i < s.len() { s[i] } else { 0 }
 }
 
-fn is_digit(b: u8) -> bool
+pub fn is_digit(b: u8) -> bool
     ensures { λ r. ⌜ r ≡ isDigit b ⌝ }
 {
-    if 48 <= b { b <= 57 } else { false }
+    b'0' <= b && b <= b'9'
 }
 
 // A field is over at a space and at the end of the line.
@@ -39,9 +53,9 @@ fn is_over(s: &[u8], i: usize) -> bool
 
 // A 0 at `at` before other digits, n in all.
 fn is_needless(s: &[u8], at: usize, n: usize) -> bool
-    ensures { λ r. ⌜ r ≡ both (eqb (next (drop at (now (s .entry)))) 48) (ltb 1 n) ⌝ }
+    ensures { λ r. ⌜ r ≡ (eqb (next (drop at (now (s .entry)))) 48 && ltb 1 n) ⌝ }
 {
-    if byte_at(s, at) == 48 { 1 < n } else { false }
+    byte_at(s, at) == b'0' && 1 < n
 }
 
 fn wide(b: u8) -> u32
@@ -56,7 +70,7 @@ fn push(v: u32, b: u8) -> u32
     ensures { λ r. ⌜ r ≡ min 1000001 (v * 10 + (b - 48)) ⌝ }
 {
     let n = v * 10 + (wide(b) - 48);
-    if n < 1000001 { n } else { 1000001 }
+    if n < BEYOND { n } else { BEYOND }
 }
 
 // The digits from `at` on.
@@ -91,4 +105,48 @@ pub fn read_token(s: &[u8], at: usize) -> Token
         };
     }
     Token::Malformed
+}
+
+// A space, and a number, by its form.
+pub fn read_field_token(s: &[u8], at: usize) -> Token
+    ensures { λ r. ⌜ seenToken (now (s .entry)) r ≡ capped (field token (drop at (now (s .entry)))) ⌝ }
+{
+    if byte_at(s, at) != b' ' {
+        return Token::Malformed;
+    }
+    read_token(s, at + 1)
+}
+
+// A space and a minus.
+fn is_minus(s: &[u8], at: usize) -> bool
+    ensures { λ r. ⌜ r ≡ (eqb (next (drop at (now (s .entry)))) 32 && eqb (next (drop (at + 1) (now (s .entry)))) 45) ⌝ }
+{
+    byte_at(s, at) == b' ' && byte_at(s, at + 1) == b'-'
+}
+
+// A space, and a number that may have a minus, by its form: `-0` is malformed.
+pub fn read_signed_token(s: &[u8], at: usize) -> SignedToken
+    ensures { λ r. ⌜ seenSignedToken (now (s .entry)) r ≡ cappedSigned (field signedToken (drop at (now (s .entry)))) ⌝ }
+{
+    if is_minus(s, at) {
+        let Token::Digits { value, next } = read_token(s, at + 2) else {
+            return SignedToken::Malformed;
+        };
+        if value == 0 {
+            return SignedToken::Malformed;
+        }
+        return SignedToken::Digits {
+            minus: true,
+            value: value,
+            next: next,
+        };
+    }
+    let Token::Digits { value, next } = read_field_token(s, at) else {
+        return SignedToken::Malformed;
+    };
+    SignedToken::Digits {
+        minus: false,
+        value: value,
+        next: next,
+    }
 }

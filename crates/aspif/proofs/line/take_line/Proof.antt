@@ -19,8 +19,8 @@ enum-known-k c = search needs
 enum-told : tie.Need-enum-told
 enum-told c = search needs
 
-code-of-requires : tie.Need-code-of-requires
-code-of-requires c κs = search needs
+code-requires : tie.Need-code-requires
+code-requires c κs = search needs
 
 returns : tie.Need-returns
 returns c =
@@ -28,7 +28,7 @@ returns c =
     let args = c .before .before .before .before .before .before .before .args in
     let append-line = c .before .before .before .before .append-line in
     let read-number = c .before .before .before .read-number in
-    (rw (c .code-of .ensures, c .before .enum-told .given .1) (refused-line _ _ _ _ _ (pre .0) (append-line .ensures .0) (append-line .ensures .1) (append-line .ensures .2) _ (sym (read-number .ensures .0) ∙ ap (seenNumber (args .s .now)) (c .before .enum-told .given .1))), tt)
+    (rw (c .code .ensures, c .before .enum-told .given .1) (refused-line _ _ _ _ _ (pre .0) (append-line .ensures .0) (append-line .ensures .1) (append-line .ensures .2) _ (sym (read-number .ensures .0) ∙ ap (seenNumber (args .s .now)) (c .before .enum-told .given .1))), tt)
 
 add-rule-requires : tie.Need-add-rule-requires
 add-rule-requires c κs = search needs
@@ -98,7 +98,7 @@ take-line-spec =
     read-number-requires
     enum-known-k
     enum-told
-    code-of-requires
+    code-requires
     returns
     add-rule-requires
     returns-2

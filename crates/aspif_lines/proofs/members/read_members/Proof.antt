@@ -40,8 +40,8 @@ enum-known-m c = search needs
 enum-told : tie.Need-enum-told Inv-loop μ-loop
 enum-told c = search needs
 
-denial-of-requires : tie.Need-denial-of-requires Inv-loop μ-loop
-denial-of-requires c κs = search needs
+code-requires : tie.Need-code-requires Inv-loop μ-loop
+code-requires c κs = search needs
 
 same-length : tie.Need-same-length Inv-loop μ-loop
 same-length c = c .before .before .before .before .before .loop .inv .2 .long
@@ -52,7 +52,7 @@ returns c =
     let loop = c .before .before .before .before .before .loop in
     let loop-test = c .before .before .before .before .loop-test in
     let read-member = c .before .before .before .read-member in
-    (rw (c .denial-of .ensures, ← loop .inv .1, more-bad (member (args .head)) (args .k) (loop .i) _ _ _ (loop-test .taken) (sym (read-member .ensures .0) ∙ ap (seenSigned (args .s .now)) (c .before .enum-told .given .1)), c .before .enum-told .given .1), tt, loop .inv .2)
+    (rw (c .code .ensures, ← loop .inv .1, more-bad (member (args .head)) (args .k) (loop .i) _ _ _ (loop-test .taken) (sym (read-member .ensures .0) ∙ ap (seenSigned (args .s .now)) (c .before .enum-told .given .1)), c .before .enum-told .given .1), tt, loop .inv .2)
 
 add-j : tie.Need-add-j Inv-loop μ-loop
 add-j c = omega (arith, c .before .before .before .before .before .before .before .good)
@@ -113,7 +113,7 @@ read-members-spec =
     read-member-requires
     enum-known-m
     enum-told
-    denial-of-requires
+    code-requires
     same-length
     returns
     add-j

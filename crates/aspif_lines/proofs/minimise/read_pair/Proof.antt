@@ -15,12 +15,12 @@ enum-known-l c = search needs
 enum-told : tie.Need-enum-told
 enum-told c = search needs
 
-denial-of-requires : tie.Need-denial-of-requires
-denial-of-requires c κs = search needs
+code-requires : tie.Need-code-requires
+code-requires c κs = search needs
 
 returns : tie.Need-returns
 unfolding pair
-returns c = (λ p. rw (c .denial-of .ensures, ← c .before .before .before .read-literal .ensures .0, c .before .enum-told .given .1), tt)
+returns c = (λ p. rw (c .code .ensures, ← c .before .before .before .read-literal .ensures .0, c .before .enum-told .given .1), tt)
 
 read-natural-requires : tie.Need-read-natural-requires
 read-natural-requires c κs = search needs
@@ -31,8 +31,8 @@ enum-known-n c = search needs
 enum-told-2 : tie.Need-enum-told-2
 enum-told-2 c = search needs
 
-code-of-requires : tie.Need-code-of-requires
-code-of-requires c κs = search needs
+code-requires-2 : tie.Need-code-requires-2
+code-requires-2 c κs = search needs
 
 returns-2 : tie.Need-returns-2
 unfolding pair
@@ -40,7 +40,7 @@ returns-2 c =
     let read-literal = c .before .before .before .before .before .before .before .read-literal in
     let l = c .before .before .before .before .before .l in
     let read-natural = c .before .before .before .read-natural in
-    (λ p. rw (c .code-of .ensures, ← read-literal .ensures .0, l .given .1, ← read-natural .ensures .0, c .before .enum-told2 .given .1), tt)
+    (λ p. rw (c .code2 .ensures, ← read-literal .ensures .0, l .given .1, ← read-natural .ensures .0, c .before .enum-told2 .given .1), tt)
 
 returns-3 : tie.Need-returns-3
 unfolding pair
@@ -60,11 +60,11 @@ read-pair-spec =
     read-literal-requires
     enum-known-l
     enum-told
-    denial-of-requires
+    code-requires
     returns
     read-natural-requires
     enum-known-n
     enum-told-2
-    code-of-requires
+    code-requires-2
     returns-2
     returns-3)

@@ -45,8 +45,8 @@ enum-known-m c = search needs
 enum-told : tie.Need-enum-told Inv-loop μ-loop
 enum-told c = search needs
 
-unpaired-of-requires : tie.Need-unpaired-of-requires Inv-loop μ-loop
-unpaired-of-requires c κs = search needs
+code-requires : tie.Need-code-requires Inv-loop μ-loop
+code-requires c κs = search needs
 
 same-length : tie.Need-same-length Inv-loop μ-loop
 same-length c = c .before .before .before .before .before .loop .inv .2 .long
@@ -65,7 +65,7 @@ returns c =
     let read-pair = c .before .before .before .read-pair in
     let b = back (args .p) (omega arith) in
     let inv = rw b at (loop .inv .1) in
-    (rw (c .unpaired-of .ensures, ← inv, more-bad (pair (args .p)) (args .k) (loop .i) _ _ _ (loop-test .taken) (sym (read-pair .ensures .0 (args .p)) ∙ ap (seenPair (args .s .now) (args .p)) (c .before .enum-told .given .1)), c .before .enum-told .given .1), tt, loop .inv .2, loop .inv .3, loop .inv .4)
+    (rw (c .code .ensures, ← inv, more-bad (pair (args .p)) (args .k) (loop .i) _ _ _ (loop-test .taken) (sym (read-pair .ensures .0 (args .p)) ∙ ap (seenPair (args .s .now) (args .p)) (c .before .enum-told .given .1)), c .before .enum-told .given .1), tt, loop .inv .2, loop .inv .3, loop .inv .4)
 
 add-j : tie.Need-add-j Inv-loop μ-loop
 add-j c = omega (arith, c .before .before .before .before .before .before .before .before .good)
@@ -152,7 +152,7 @@ read-pairs-spec =
     read-pair-requires
     enum-known-m
     enum-told
-    unpaired-of-requires
+    code-requires
     same-length
     same-length-2
     same-length-3

@@ -14,12 +14,12 @@ enum-known-a c = search needs
 enum-told : tie.Need-enum-told
 enum-told c = search needs
 
-code-of-requires : tie.Need-code-of-requires
-code-of-requires c κs = search needs
+code-requires : tie.Need-code-requires
+code-requires c κs = search needs
 
 returns : tie.Need-returns
 unfolding bodyCount
-returns c = (rw (c .code-of .ensures, ← c .before .before .before .read-natural .ensures .0, c .before .enum-told .given .1), tt)
+returns c = (rw (c .code .ensures, ← c .before .before .before .read-natural .ensures .0, c .before .enum-told .given .1), tt)
 
 returns-2 : tie.Need-returns-2
 unfolding bodyCount
@@ -42,7 +42,7 @@ read-body-count-spec =
     read-natural-requires
     enum-known-a
     enum-told
-    code-of-requires
+    code-requires
     returns
     returns-2
     read-natural-requires-2

@@ -16,12 +16,12 @@ enum-known-a c = search needs
 enum-told : tie.Need-enum-told
 enum-told c = search needs
 
-code-of-requires : tie.Need-code-of-requires
-code-of-requires c κs = search needs
+code-requires : tie.Need-code-requires
+code-requires c κs = search needs
 
 returns : tie.Need-returns
 unfolding opening
-returns c = (rw (c .code-of .ensures, ← c .before .before .before .read-natural .ensures .0, c .before .enum-told .given .1), tt)
+returns c = (rw (c .code .ensures, ← c .before .before .before .read-natural .ensures .0, c .before .enum-told .given .1), tt)
 
 read-natural-requires-2 : tie.Need-read-natural-requires-2
 read-natural-requires-2 c κs = search needs
@@ -32,8 +32,8 @@ enum-known-b c = search needs
 enum-told-2 : tie.Need-enum-told-2
 enum-told-2 c = search needs
 
-code-of-requires-2 : tie.Need-code-of-requires-2
-code-of-requires-2 c κs = search needs
+code-requires-2 : tie.Need-code-requires-2
+code-requires-2 c κs = search needs
 
 returns-2 : tie.Need-returns-2
 unfolding opening
@@ -41,7 +41,7 @@ returns-2 c =
     let read-natural = c .before .before .before .before .before .before .before .read-natural in
     let a = c .before .before .before .before .before .a in
     let read-natural2 = c .before .before .before .read-natural2 in
-    (rw (c .code-of2 .ensures, ← read-natural .ensures .0, a .given .1, ← read-natural2 .ensures .0, c .before .enum-told2 .given .1), tt)
+    (rw (c .code2 .ensures, ← read-natural .ensures .0, a .given .1, ← read-natural2 .ensures .0, c .before .enum-told2 .given .1), tt)
 
 too-many-requires : tie.Need-too-many-requires
 too-many-requires c κs = search needs
@@ -77,12 +77,12 @@ read-opening-spec =
     read-natural-requires
     enum-known-a
     enum-told
-    code-of-requires
+    code-requires
     returns
     read-natural-requires-2
     enum-known-b
     enum-told-2
-    code-of-requires-2
+    code-requires-2
     returns-2
     too-many-requires
     returns-3

@@ -17,12 +17,12 @@ enum-known-o c = search needs
 enum-told : tie.Need-enum-told
 enum-told c = search needs
 
-shut-of-requires : tie.Need-shut-of-requires
-shut-of-requires c κs = search needs
+code-requires : tie.Need-code-requires
+code-requires c κs = search needs
 
 returns : tie.Need-returns
 unfolding ruleLine
-returns c = (rw (c .shut-of .ensures, ← c .before .before .before .read-opening .ensures .0, c .before .enum-told .given .1), tt, tt, kept-refl (pos 0) _ _)
+returns c = (rw (c .code .ensures, ← c .before .before .before .read-opening .ensures .0, c .before .enum-told .given .1), tt, tt, kept-refl (pos 0) _ _)
 
 read-members-requires : tie.Need-read-members-requires
 read-members-requires c κs = omega (arith, rw (c .before .before .o .given .1) at (c .before .before .before .before .read-opening .ensures .1))
@@ -33,8 +33,8 @@ enum-known-h c = search needs
 enum-told-2 : tie.Need-enum-told-2
 enum-told-2 c = search needs
 
-stop-of-requires : tie.Need-stop-of-requires
-stop-of-requires c κs = search needs
+code-requires-2 : tie.Need-code-requires-2
+code-requires-2 c κs = search needs
 
 returns-2 : tie.Need-returns-2
 unfolding ruleLine
@@ -42,7 +42,7 @@ returns-2 c =
     let read-opening = c .before .before .before .before .before .before .before .before .read-opening in
     let o = c .before .before .before .before .before .before .o in
     let read-members = c .before .before .before .read-members in
-    (rw (c .stop-of .ensures, ← read-opening .ensures .0, o .given .1, ← read-members .ensures .0, c .before .enum-told2 .given .1), tt, tt, read-members .ensures .2)
+    (rw (c .code2 .ensures, ← read-opening .ensures .0, o .given .1, ← read-members .ensures .0, c .before .enum-told2 .given .1), tt, tt, read-members .ensures .2)
 
 read-body-count-requires : tie.Need-read-body-count-requires
 read-body-count-requires c κs = search needs
@@ -53,8 +53,8 @@ enum-known-n c = search needs
 enum-told-3 : tie.Need-enum-told-3
 enum-told-3 c = search needs
 
-code-of-requires : tie.Need-code-of-requires
-code-of-requires c κs = search needs
+code-requires-3 : tie.Need-code-requires-3
+code-requires-3 c κs = search needs
 
 returns-3 : tie.Need-returns-3
 unfolding ruleLine
@@ -64,7 +64,7 @@ returns-3 c =
     let read-members = c .before .before .before .before .before .before .before .read-members in
     let h = c .before .before .before .before .before .h in
     let read-body-count = c .before .before .before .read-body-count in
-    (rw (c .code-of .ensures, ← read-opening .ensures .0, o .given .1, ← read-members .ensures .0, h .given .1, ← read-body-count .ensures .0, c .before .enum-told3 .given .1), tt, tt, read-members .ensures .2)
+    (rw (c .code3 .ensures, ← read-opening .ensures .0, o .given .1, ← read-members .ensures .0, h .given .1, ← read-body-count .ensures .0, c .before .enum-told3 .given .1), tt, tt, read-members .ensures .2)
 
 size-requires : tie.Need-size-requires
 size-requires c κs = search needs
@@ -91,8 +91,8 @@ enum-known-l c = search needs
 enum-told-4 : tie.Need-enum-told-4
 enum-told-4 c = search needs
 
-stop-of-requires-2 : tie.Need-stop-of-requires-2
-stop-of-requires-2 c κs = search needs
+code-requires-4 : tie.Need-code-requires-4
+code-requires-4 c κs = search needs
 
 returns-4 : tie.Need-returns-4
 unfolding ruleLine
@@ -105,7 +105,7 @@ returns-4 c =
     let n = c .before .before .before .before .before .before .before .n in
     let size = c .before .before .before .before .before .size in
     let read-members2 = c .before .before .before .read-members2 in
-    (rw (c .stop-of2 .ensures, ← read-opening .ensures .0, o .given .1, ← read-members .ensures .0, h .given .1, ← read-body-count .ensures .0, n .given .1, ← size .ensures, ← read-members2 .ensures .0, c .before .enum-told4 .given .1), tt, tt, kept-then (pos 0) _ _ _ _ _ (read-members .ensures .2) (read-members2 .ensures .2) (omega arith))
+    (rw (c .code4 .ensures, ← read-opening .ensures .0, o .given .1, ← read-members .ensures .0, h .given .1, ← read-body-count .ensures .0, n .given .1, ← size .ensures, ← read-members2 .ensures .0, c .before .enum-told4 .given .1), tt, tt, kept-then (pos 0) _ _ _ _ _ (read-members .ensures .2) (read-members2 .ensures .2) (omega arith))
 
 is-ended-requires : tie.Need-is-ended-requires
 is-ended-requires c κs = search needs
@@ -151,24 +151,24 @@ read-rule-spec =
     read-opening-requires
     enum-known-o
     enum-told
-    shut-of-requires
+    code-requires
     returns
     read-members-requires
     enum-known-h
     enum-told-2
-    stop-of-requires
+    code-requires-2
     returns-2
     read-body-count-requires
     enum-known-n
     enum-told-3
-    code-of-requires
+    code-requires-3
     returns-3
     size-requires
     add-read-members
     read-members-requires-2
     enum-known-l
     enum-told-4
-    stop-of-requires-2
+    code-requires-4
     returns-4
     is-ended-requires
     returns-5

@@ -16,12 +16,12 @@ enum-known-f c = search needs
 enum-told : tie.Need-enum-told
 enum-told c = search needs
 
-code-of-requires : tie.Need-code-of-requires
-code-of-requires c κs = search needs
+code-requires : tie.Need-code-requires
+code-requires c κs = search needs
 
 returns : tie.Need-returns
 unfolding symbolLine
-returns c = (rw (c .code-of .ensures, ← c .before .before .before .read-natural .ensures .0, c .before .enum-told .given .1), tt, tt, kept-refl (pos 0) _ _)
+returns c = (rw (c .code .ensures, ← c .before .before .before .read-natural .ensures .0, c .before .enum-told .given .1), tt, tt, kept-refl (pos 0) _ _)
 
 size-requires : tie.Need-size-requires
 size-requires c κs = search needs
@@ -29,23 +29,20 @@ size-requires c κs = search needs
 read-name-requires : tie.Need-read-name-requires
 read-name-requires c κs = search needs
 
-enum-known-w : tie.Need-enum-known-w
-enum-known-w c = search needs
+enum-known-b : tie.Need-enum-known-b
+enum-known-b c = search needs
 
 enum-told-2 : tie.Need-enum-told-2
 enum-told-2 c = search needs
 
-unnamed-of-requires : tie.Need-unnamed-of-requires
-unnamed-of-requires c κs = search needs
-
 returns-2 : tie.Need-returns-2
 unfolding symbolLine
 returns-2 c =
-    let read-natural = c .before .before .before .before .before .before .before .before .read-natural in
-    let f = c .before .before .before .before .before .before .f in
-    let size = c .before .before .before .before .size in
-    let read-name = c .before .before .before .read-name in
-    (rw (c .unnamed-of .ensures, ← read-natural .ensures .0, f .given .1, ← size .ensures, ← read-name .ensures .0, c .before .enum-told2 .given .1), tt, tt, kept-refl (pos 0) _ _)
+    let read-natural = c .before .before .before .before .before .before .before .read-natural in
+    let f = c .before .before .before .before .before .f in
+    let size = c .before .before .before .size in
+    let read-name = c .before .before .read-name in
+    (rw (← read-natural .ensures .0, f .given .1, ← size .ensures, ← read-name .ensures .0, c .enum-told2 .given .1), tt, tt, kept-refl (pos 0) _ _)
 
 read-natural-requires-2 : tie.Need-read-natural-requires-2
 read-natural-requires-2 c κs = search needs
@@ -56,8 +53,8 @@ enum-known-n c = search needs
 enum-told-3 : tie.Need-enum-told-3
 enum-told-3 c = search needs
 
-code-of-requires-2 : tie.Need-code-of-requires-2
-code-of-requires-2 c κs = search needs
+code-requires-2 : tie.Need-code-requires-2
+code-requires-2 c κs = search needs
 
 returns-3 : tie.Need-returns-3
 unfolding symbolLine
@@ -66,9 +63,9 @@ returns-3 c =
     let f = c .before .before .before .before .before .before .before .before .before .before .f in
     let size = c .before .before .before .before .before .before .before .before .size in
     let read-name = c .before .before .before .before .before .before .before .read-name in
-    let w = c .before .before .before .before .before .w in
+    let w = c .before .before .before .before .before .b in
     let read-natural2 = c .before .before .before .read-natural2 in
-    (rw (c .code-of2 .ensures, ← read-natural .ensures .0, f .given .1, ← size .ensures, ← read-name .ensures .0, w .given .1, ← read-natural2 .ensures .0, c .before .enum-told3 .given .1), tt, tt, kept-refl (pos 0) _ _)
+    (rw (c .code2 .ensures, ← read-natural .ensures .0, f .given .1, ← size .ensures, ← read-name .ensures .0, w .given .1, ← read-natural2 .ensures .0, c .before .enum-told3 .given .1), tt, tt, kept-refl (pos 0) _ _)
 
 size-requires-2 : tie.Need-size-requires-2
 size-requires-2 c κs = search needs
@@ -82,8 +79,8 @@ enum-known-l c = search needs
 enum-told-4 : tie.Need-enum-told-4
 enum-told-4 c = search needs
 
-stop-of-requires : tie.Need-stop-of-requires
-stop-of-requires c κs = search needs
+code-requires-3 : tie.Need-code-requires-3
+code-requires-3 c κs = search needs
 
 returns-4 : tie.Need-returns-4
 unfolding symbolLine
@@ -92,21 +89,21 @@ returns-4 c =
     let f = c .before .before .before .before .before .before .before .before .before .before .before .before .before .before .before .before .f in
     let size = c .before .before .before .before .before .before .before .before .before .before .before .before .before .before .size in
     let read-name = c .before .before .before .before .before .before .before .before .before .before .before .before .before .read-name in
-    let w = c .before .before .before .before .before .before .before .before .before .before .before .w in
+    let w = c .before .before .before .before .before .before .before .before .before .before .before .b in
     let read-natural2 = c .before .before .before .before .before .before .before .before .before .read-natural2 in
     let n = c .before .before .before .before .before .before .before .n in
     let size2 = c .before .before .before .before .before .size2 in
     let read-members = c .before .before .before .read-members in
-    (rw (c .stop-of .ensures, ← read-natural .ensures .0, f .given .1, ← size .ensures, ← read-name .ensures .0, w .given .1, ← read-natural2 .ensures .0, n .given .1, ← size2 .ensures, ← read-members .ensures .0, c .before .enum-told4 .given .1), tt, tt, read-members .ensures .2)
+    (rw (c .code3 .ensures, ← read-natural .ensures .0, f .given .1, ← size .ensures, ← read-name .ensures .0, w .given .1, ← read-natural2 .ensures .0, n .given .1, ← size2 .ensures, ← read-members .ensures .0, c .before .enum-told4 .given .1), tt, tt, read-members .ensures .2)
 
 is-ended-requires : tie.Need-is-ended-requires
 is-ended-requires c κs = search needs
 
-add-t26 : tie.Need-add-t26
-add-t26 c =
+add-name : tie.Need-add-name
+add-name c =
     let good = c .before .before .before .before .before .before .before .before .before .before .before .before .before .before .before .before .before .before .before .before .before .before .good in
     let read-name = c .before .before .before .before .before .before .before .before .before .before .before .before .before .before .before .read-name in
-    let w = c .before .before .before .before .before .before .before .before .before .before .before .before .before .w in
+    let w = c .before .before .before .before .before .before .before .before .before .before .before .before .before .b in
     omega (arith, rw (w .given .1) at (read-name .ensures .1), good)
 
 returns-5 : tie.Need-returns-5
@@ -116,7 +113,7 @@ returns-5 c =
     let f = c .before .before .before .before .before .before .before .before .before .before .before .before .before .before .before .before .before .before .f in
     let size = c .before .before .before .before .before .before .before .before .before .before .before .before .before .before .before .before .size in
     let read-name = c .before .before .before .before .before .before .before .before .before .before .before .before .before .before .before .read-name in
-    let w = c .before .before .before .before .before .before .before .before .before .before .before .before .before .w in
+    let w = c .before .before .before .before .before .before .before .before .before .before .before .before .before .b in
     let read-natural2 = c .before .before .before .before .before .before .before .before .before .before .before .read-natural2 in
     let n = c .before .before .before .before .before .before .before .before .before .n in
     let size2 = c .before .before .before .before .before .before .before .size2 in
@@ -134,7 +131,7 @@ returns-6 c =
     let f = c .before .before .before .before .before .before .before .before .before .before .before .before .before .before .before .before .before .before .f in
     let size = c .before .before .before .before .before .before .before .before .before .before .before .before .before .before .before .before .size in
     let read-name = c .before .before .before .before .before .before .before .before .before .before .before .before .before .before .before .read-name in
-    let w = c .before .before .before .before .before .before .before .before .before .before .before .before .before .w in
+    let w = c .before .before .before .before .before .before .before .before .before .before .before .before .before .b in
     let read-natural2 = c .before .before .before .before .before .before .before .before .before .before .before .read-natural2 in
     let n = c .before .before .before .before .before .before .before .before .before .n in
     let size2 = c .before .before .before .before .before .before .before .size2 in
@@ -149,26 +146,25 @@ read-symbol-spec =
     read-natural-requires
     enum-known-f
     enum-told
-    code-of-requires
+    code-requires
     returns
     size-requires
     read-name-requires
-    enum-known-w
+    enum-known-b
     enum-told-2
-    unnamed-of-requires
     returns-2
     read-natural-requires-2
     enum-known-n
     enum-told-3
-    code-of-requires-2
+    code-requires-2
     returns-3
     size-requires-2
     read-members-requires
     enum-known-l
     enum-told-4
-    stop-of-requires
+    code-requires-3
     returns-4
     is-ended-requires
-    add-t26
+    add-name
     returns-5
     returns-6)

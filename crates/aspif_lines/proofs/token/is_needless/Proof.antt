@@ -14,7 +14,7 @@ returns : tie.Need-returns
 returns c = rw (eq-eqb (next (drop (c .before .before .before .args .at) (c .before .before .before .args .s .now))) 48 (sym (c .before .byte-at .ensures) ∙ c .if1 .taken))
 
 returns-2 : tie.Need-returns-2
-returns-2 c = rw (ne-eqb (next (drop (c .before .before .before .args .at) (c .before .before .before .args .s .now))) 48 (λ z. c .if1 .left (c .before .byte-at .ensures ∙ z)))
+returns-2 c = rw (← c .before .byte-at .ensures, ne-eqb (c .before .byte-at .result) 48 (c .if1 .left))
 
 pub is-needless-spec : {M : Type 1} → statement M
 is-needless-spec = tie.close (tie.spec byte-at-requires returns returns-2)
