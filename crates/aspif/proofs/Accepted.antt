@@ -1,17 +1,17 @@
 -- Every program that a text is accepted with has atoms from 1 to 1,024, weights to 1,000,000 and its priorities in order, and fits its tables. Assumes nothing.
-use mathlib.Core.Path.{_≡_, refl, sym, ap, _∙_}
-use mathlib.Core.Bool.{Bool, true, false, not}
+use mathlib.Core.Path.{_≡_, refl}
+use mathlib.Core.Bool.{Bool, true, false}
 use mathlib.Core.List.{List, [], _∷_, _++_, map}
-use Prim.Native.Nat.{ℕ, zero, suc, _+_, _≤_, _<_, max}
+use Prim.Native.Nat.{ℕ, zero, suc, _+_, _≤_}
 use native.Mathlib.Omega.{arith}
 use lib.Dec.{leb, ltb, eqb}
-use lib.IntN.{ℤ, pos, negsuc, negℤ, natAbs}
+use lib.IntN.{ℤ, pos, natAbs}
 use lib.ListN.{length, drop}
 use borrow.Author.Tests.{leb-true, eqb-false}
 use Rattle.asp.specs.Sets.{pick, In}
-use Rattle.asp.specs.Program.{Literal, normal, Head, constraint, plain, choice, Rule, Entry, Symbol, Program, All, LiteralIn, HeadIn, RuleIn, ProgramIn}
-use Rattle.asp.specs.Tables.{named, plainHead}
-use Rattle.aspif_lines.specs.Text.{within, Read, got, bad, bind, next, token, ranged, number, signedToken, signedUpTo, signed, field, natural, atom, literal, member, more, nil, ended, Opening, opening, bodyCount, headOf, ruleOf, ruleLine, pair, Minimise, minimiseLine, nameByte, symbolLine, Statement, rule, minimise, symbol, comment, final, ofKind, statement, Reading, add, addRule, addMinimise, addSymbol, insert, fits, nothing, isFinal, Step, stop, last, goes, led, stepped, judged, lines, same, header, none, opened, headed, pieces, sum, textOf, Answer, accepted, refused}
+use Rattle.asp.specs.Program.{choice, Entry, Symbol, Program, All, LiteralIn, HeadIn, RuleIn, ProgramIn}
+use Rattle.asp.specs.Tables.{named}
+use Rattle.aspif_lines.specs.Text.{within, Read, got, bad, bind, next, token, ranged, number, signedToken, signedUpTo, signed, field, natural, atom, literal, member, more, nil, ended, opening, bodyCount, headOf, ruleOf, ruleLine, pair, Minimise, minimiseLine, nameByte, symbolLine, Statement, rule, minimise, symbol, comment, final, ofKind, statement, Reading, add, fits, nothing, led, stepped, judged, lines, same, header, none, opened, headed, pieces, sum, textOf, Answer, accepted, refused}
 use Rattle.aspif.specs.Store.{Descending}
 use Rattle.aspif.proofs.Levels.{descending-insert}
 use Rattle.aspif_lines.proofs.Tokens.{within-ends}

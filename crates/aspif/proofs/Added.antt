@@ -1,18 +1,17 @@
 -- Tables with one statement more. Assumes nothing.
-use mathlib.Core.Path.{_≡_, refl, sym, ap, ap₂, _∙_}
+use mathlib.Core.Path.{_≡_, refl, sym, ap, _∙_}
 use mathlib.Core.Bool.{Bool, true, false}
 use mathlib.Core.List.{List, [], _∷_, _++_, map}
 use mathlib.Core.Logic.{⊎-elim}
-use Prim.Native.Nat.{ℕ, zero, suc, _+_, _-_, _*_, _<_, _≤_, max}
+use Prim.Native.Nat.{ℕ, zero, suc, _+_, _<_, _≤_, max}
 use native.Mathlib.Omega.{arith}
 use lib.Dec.{eqb}
 use lib.IntN.{ℤ, pos, natAbs}
 use lib.ListN.{length, getD}
 use borrow.Author.Tests.{ne-eqb}
-use Rattle.asp.specs.Sets.{pick}
-use Rattle.asp.specs.Program.{Rule, Entry, Symbol, highest, ruleAtoms}
-use Rattle.asp.specs.Tables.{span, literalsAt, atomsAt, entryAt, entriesOf, Row, rowAt, ruleAt, rulesOf, symbolAt, symbolsOf, named}
-use Rattle.aspif_lines.specs.Text.{Read, got, bad, ruleOf, headOf, ruleLine, Minimise, minimiseLine, symbolLine, insert, sum, ruleSize, conditionSize, nameSize}
+use Rattle.asp.specs.Program.{Entry, Symbol, highest}
+use Rattle.asp.specs.Tables.{span, literalsAt, entryAt, entriesOf, Row, rowAt, ruleAt, rulesOf, symbolAt, symbolsOf, named}
+use Rattle.aspif_lines.specs.Text.{got, ruleOf, ruleLine, minimiseLine, symbolLine, insert, sum, ruleSize, conditionSize, nameSize}
 use Rattle.aspif_lines.specs.Seen.{bytesAt, entriesAt, Kept, Positive, Pushed}
 use Rattle.aspif.specs.Store.{RulesSound, RuleAdded, ruleCounts, SymbolsSound, SymbolAdded, symbolCounts, MinimiseAdded, minimiseCounts}
 use Rattle.aspif.specs.declared.table.Counts.{Counts}

@@ -1,17 +1,16 @@
 -- Laws that a wrong definition of texts would break. Assumes nothing.
 -- 1. A refusal found on line k does not depend on what follows that line.
 -- 2. A comment line may be put in after any line but the `0` line: program and stored text stay.
-use mathlib.Core.Path.{_≡_, refl, sym, ap, _∙_}
+use mathlib.Core.Path.{_≡_, refl, sym, _∙_}
 use mathlib.Core.Bool.{Bool, true, false}
-use mathlib.Core.List.{List, [], _∷_, _++_, append-assoc}
-use Prim.Native.Nat.{ℕ, zero, suc, _+_, _≤_, _<_}
+use mathlib.Core.List.{List, [], _∷_, _++_}
+use Prim.Native.Nat.{ℕ, _+_, _≤_, _<_}
 use native.Mathlib.Omega.{arith}
-use lib.Dec.{eqb, ltb}
-use lib.ListN.{length, length-append}
-use borrow.Author.Tests.{ltb-false, le-ltb}
+use lib.ListN.{length}
+use borrow.Author.Tests.{le-ltb}
 use Rattle.asp.specs.Sets.{pick}
 use Rattle.asp.specs.Program.{Program, All}
-use Rattle.aspif_lines.specs.Text.{Read, got, bad, Statement, rule, minimise, symbol, comment, final, statement, Reading, add, line, fits, pieces, longer, nothing, Step, stop, last, goes, led, stepped, judged, lines, same, header, opened, headed, sum, textOf, Answer, accepted, refused}
+use Rattle.aspif_lines.specs.Text.{got, comment, statement, Reading, fits, pieces, nothing, Step, stop, last, goes, stepped, judged, lines, same, header, opened, headed, sum, textOf, Answer, accepted, refused}
 use Rattle.aspif.proofs.Onwards.{pieces-some, nothing-more, goes-on, last-on}
 use Rattle.aspif.proofs.RoundTrip.{Clean, joined, pieces-joined}
 

@@ -1,19 +1,19 @@
 -- What a line leads to, by its kind and what its statement adds to the tables. Assumes nothing.
-use mathlib.Core.Path.{_≡_, refl, sym, ap, _∙_}
+use mathlib.Core.Path.{_≡_, refl, sym, _∙_}
 use mathlib.Core.Bool.{Bool, true, false}
 use mathlib.Core.List.{List, [], _∷_, _++_}
-use Prim.Native.Nat.{ℕ, suc, _+_, _≤_, _<_, max}
+use Prim.Native.Nat.{ℕ, _+_, _≤_, max}
 use native.Mathlib.Omega.{arith}
 use lib.Dec.{eqb}
-use lib.IntN.{ℤ, pos, natAbs}
+use lib.IntN.{ℤ, natAbs}
 use lib.ListN.{length, getD}
-use borrow.Author.Tests.{eq-eqb, ne-eqb, eqb-true, eqb-false}
+use borrow.Author.Tests.{ne-eqb, eqb-true, eqb-false}
 use Rattle.asp.specs.Sets.{pick}
-use Rattle.asp.specs.Program.{Rule, Entry, Symbol, Program, highest, ruleAtoms, atoms}
-use Rattle.asp.specs.Tables.{span, literalsAt, rowAt, symbolAt, symbolsOf, programOf}
-use Rattle.aspif_lines.specs.Text.{Read, got, bad, bind, nil, ended, number, ruleLine, minimiseLine, symbolLine, Minimise, rule, minimise, symbol, comment, final, ofKind, statement, Reading, addRule, addMinimise, addSymbol, line, add, led, stepped, Step, stop, last, goes}
+use Rattle.asp.specs.Program.{Rule, Entry, Symbol, highest, ruleAtoms, atoms}
+use Rattle.asp.specs.Tables.{literalsAt, rowAt, symbolAt, symbolsOf, programOf}
+use Rattle.aspif_lines.specs.Text.{Read, got, bad, bind, nil, number, ruleLine, minimiseLine, symbolLine, Minimise, rule, minimise, symbol, comment, final, ofKind, statement, line, led, stepped, stop}
 use Rattle.aspif_lines.specs.Seen.{bytesAt, Kept}
-use Rattle.aspif.specs.Store.{SymbolsSound, RuleAdded, AddedRule, MinimiseAdded, AddedMinimise, SymbolAdded, AddedSymbol, otherTurn, finalCounts, ruleCounts, minimiseCounts, symbolCounts, Lists, lists, Sized, tables, readingOf, Sound, seenTurn, TurnAfter, Descending}
+use Rattle.aspif.specs.Store.{SymbolsSound, RuleAdded, AddedRule, MinimiseAdded, AddedMinimise, SymbolAdded, AddedSymbol, otherTurn, finalCounts, Lists, lists, Sized, tables, readingOf, Sound, seenTurn, TurnAfter}
 use Rattle.aspif.specs.declared.table.Counts.{Counts}
 use Rattle.aspif.specs.declared.add.Turn.{Turn}
 use Rattle.aspif.specs.declared.add.Turn.the-variants as turn

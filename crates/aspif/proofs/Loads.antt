@@ -1,27 +1,23 @@
 -- What a load stores: well-formed tables, or nothing. Assumes nothing.
-use mathlib.Core.Path.{_≡_, refl, sym, ap, _∙_}
-use mathlib.Core.Bool.{Bool, true, false}
+use mathlib.Core.Path.{_≡_, refl, sym, _∙_}
 use mathlib.Core.List.{List, [], _∷_}
-use Prim.Native.Nat.{ℕ, zero, suc, _+_, _*_, _≤_, _<_, max}
+use Prim.Native.Nat.{ℕ, _≤_, _<_}
 use native.Mathlib.Omega.{arith}
-use lib.Dec.{ltb}
-use lib.IntN.{ℤ, pos, natAbs}
-use lib.ListN.{length, getD}
-use borrow.Author.Tests.{ltb-false}
-use Rattle.asp.specs.Sets.{pick, In}
+use lib.IntN.{natAbs}
+use lib.ListN.{getD}
+use Rattle.asp.specs.Sets.{In}
 use Rattle.asp.specs.Program.{Literal, Body, normal, Head, constraint, plain, choice, Rule, Entry, Symbol, Program, highest, bodyAtoms, headAtoms, ruleAtoms, atoms, All, LiteralIn, BodyIn, HeadIn, RuleIn, ProgramIn}
-use Rattle.asp.specs.Tables.{span, rowAt, RowIn, Formed, programOf}
-use Rattle.aspif_lines.specs.Text.{textOf, headed, pieces, Answer, accepted, refused}
-use Rattle.aspif.specs.Store.{Lists, tables, readingOf, Sound, Within, seenVerdict, VerdictAfter, countsOf, answerFor, answerOf, listsOf, storedProgram, storedText, WellFormed, StoredAfter}
-use Rattle.aspif.specs.declared.table.Counts.{Counts}
+use Rattle.asp.specs.Tables.{span, rowAt, RowIn}
+use Rattle.aspif_lines.specs.Text.{textOf, accepted}
+use Rattle.aspif.specs.Store.{Sound, Within, seenVerdict, VerdictAfter, countsOf, answerFor, answerOf, listsOf, storedProgram, storedText, WellFormed, StoredAfter}
 use Rattle.aspif.specs.declared.text.Stored.{Stored}
 use Rattle.aspif.specs.declared.text.Loading.{Loading}
-use Rattle.aspif.specs.declared.text.Loading.the-variants.{Accepted, RefusedAt}
+use Rattle.aspif.specs.declared.text.Loading.the-variants.{Accepted}
 use Rattle.aspif.specs.declared.text.Verdict.{Verdict}
 use Rattle.aspif.specs.declared.text.Verdict.the-variants as verdict
 use Rattle.aspif_lines.proofs.Spans.{span-length}
 use Rattle.aspif.proofs.Onwards.{fits-of, limits-within}
-use Rattle.aspif.proofs.Accepted.{Fine, Good, accepted-good}
+use Rattle.aspif.proofs.Accepted.{Good, accepted-good}
 use Rattle.aspif.proofs.RoundTrip.{stored-short, accepted-short, round-trip}
 
 -- ---- atoms up to 1,024 are atoms up to n, the highest named

@@ -1,20 +1,20 @@
 -- From a line to the next: its byte 10, what follows it, the limits. Assumes nothing.
-use mathlib.Core.Path.{_≡_, refl, sym, ap, _∙_}
+use mathlib.Core.Path.{_≡_, refl, sym, _∙_}
 use mathlib.Core.Bool.{Bool, true, false, and-eq-true-iff}
-use mathlib.Core.List.{List, [], _∷_, _++_}
+use mathlib.Core.List.{List, [], _∷_}
 use mathlib.Core.Logic.{⊎-elim}
 use Rattle.aspif_lines.proofs.Tokens.{lt-or-le}
-use Prim.Native.Nat.{ℕ, zero, suc, _+_, _-_, _≤_, _<_}
+use Prim.Native.Nat.{ℕ, suc, _+_, _≤_, _<_}
 use native.Mathlib.Omega.{arith}
 use native.Mathlib.Numerals.{add-one}
 use lib.Dec.{eqb, leb}
-use lib.IntN.{ℤ, pos}
-use lib.ListN.{length, getD, take, drop, drop-of-length-le, length-drop, length-take}
+use lib.IntN.{pos}
+use lib.ListN.{length, getD, take, drop, drop-of-length-le, length-take}
 use lib.Seq.{drop-cons}
 use borrow.Author.Tests.{eqb-true, eqb-false, leb-true}
 use Rattle.asp.specs.Sets.{pick}
 use Rattle.asp.specs.Tables.{ruleAt, symbolAt, entryAt, rowAt}
-use Rattle.aspif_lines.specs.Text.{pieces, longer, nothing, judged, lines, stepped, fits, limits, Reading, Step, stop, last, goes, Answer, accepted, refused}
+use Rattle.aspif_lines.specs.Text.{pieces, longer, nothing, judged, lines, stepped, fits, limits, Reading, stop, last, goes, Answer, accepted, refused}
 use Rattle.aspif_lines.specs.Seen.{follow}
 use Rattle.aspif.specs.Store.{Within, Lists, readingOf, Sound, seenTurn, TurnAfter, onwardOf, seenOnward, OnwardAfter}
 use Rattle.aspif.specs.declared.table.Counts.{Counts}

@@ -1,18 +1,14 @@
 -- A text's pieces, and a line put after a text. Assumes nothing.
-use mathlib.Core.Path.{_≡_, refl, sym, ap, ap₂, _∙_}
-use mathlib.Core.Bool.{Bool, true, false}
-use mathlib.Core.List.{List, [], _∷_, _++_, append-assoc}
-use Prim.Native.Nat.{ℕ, zero, suc, _+_, _-_, _*_, _<_, _≤_}
+use mathlib.Core.Path.{_≡_, refl, sym, ap, _∙_}
+use mathlib.Core.List.{List, [], _∷_, _++_}
+use Prim.Native.Nat.{ℕ, zero, suc, _+_, _-_, _<_, _≤_}
 use native.Mathlib.Omega.{arith}
-use native.Mathlib.Numerals.{add-one}
-use lib.Dec.{eqb}
 use mathlib.Core.Logic.{⊎-elim}
 use Rattle.aspif_lines.proofs.Tokens.{lt-or-le}
-use lib.ListN.{length, getD, take, drop, set, length-set, length-drop}
+use lib.ListN.{length, getD, take, drop, set, length-drop}
 use lib.Seq.{take-suc, take-length, getD-set-same, getD-set-other, getD-drop, drop-drop}
 use borrow.Author.Tests.{eq-eqb, ne-eqb}
-use Rattle.asp.specs.Sets.{pick}
-use Rattle.aspif_lines.specs.Text.{pieces, longer, line}
+use Rattle.aspif_lines.specs.Text.{pieces, line}
 use Rattle.asp.specs.Tables.{span}
 use Rattle.aspif_lines.specs.Seen.{follow, bytesAt, Kept}
 use Rattle.aspif_lines.proofs.Spans.{span-same, span-shift, span-append, span-snoc}

@@ -2,15 +2,15 @@
 use mathlib.Core.Path.{_≡_, refl, sym, ap, _∙_}
 use mathlib.Core.Bool.{Bool, true, false}
 use mathlib.Core.List.{List, [], _∷_, _++_, append-assoc}
-use Prim.Native.Nat.{ℕ, zero, suc, _+_, _≤_, _<_}
+use Prim.Native.Nat.{ℕ, suc, _+_, _≤_}
 use native.Mathlib.Omega.{arith}
 use lib.Dec.{eqb, ltb}
 use lib.ListN.{length, length-append}
-use borrow.Author.Tests.{eqb-true, eqb-false, ne-eqb, eq-eqb, ltb-false, le-ltb}
+use borrow.Author.Tests.{ltb-false, le-ltb}
 use Rattle.asp.specs.Sets.{pick}
 use Rattle.asp.specs.Program.{Program, All}
-use Rattle.aspif_lines.specs.Text.{Read, got, bad, Statement, rule, minimise, symbol, comment, final, statement, Reading, add, line, fits, pieces, longer, nothing, Step, stop, last, goes, led, stepped, judged, lines, same, header, opened, headed, textOf, Answer, accepted, refused}
-use Rattle.aspif.proofs.Onwards.{pieces-some, goes-on, last-on}
+use Rattle.aspif_lines.specs.Text.{Read, got, bad, Statement, rule, minimise, symbol, comment, final, statement, Reading, add, line, fits, pieces, longer, nothing, Step, last, goes, led, stepped, judged, lines, same, header, opened, headed, textOf, Answer, accepted, refused}
+use Rattle.aspif.proofs.Onwards.{pieces-some, goes-on}
 use Rattle.aspif.proofs.Texts.{same-true, same-refl}
 use Rattle.aspif_lines.proofs.Spans.{append-nil}
 

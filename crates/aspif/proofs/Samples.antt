@@ -1,11 +1,10 @@
 -- Texts of document 01 with the answers that it gives, each by computation. Written by tests/aspif_samples.py. Assumes nothing.
 use mathlib.Core.Path.{_≡_, refl}
-use mathlib.Core.Bool.{true, false}
 use mathlib.Core.List.{List, [], _∷_, map}
 use Prim.Native.Nat.{ℕ}
-use lib.IntN.{ℤ, pos, negsuc}
-use Rattle.asp.specs.Program.{normal, constraint, plain, choice, Rule, Entry, Symbol, Program}
-use Rattle.aspif_lines.specs.Text.{textOf, pieces, same, lines, stepped, statement, token, number, digits, decimal, natural, signedToken, signed, atom, literal, more, opening, bodyCount, ruleLine, pair, minimiseLine, symbolLine, ofKind, fits, sum, insert, Answer, accepted, refused}
+use lib.IntN.{pos, negsuc}
+use Rattle.asp.specs.Program.{normal, constraint, plain, choice, Program}
+use Rattle.aspif_lines.specs.Text.{textOf, pieces, same, lines, stepped, statement, token, number, digits, decimal, natural, signedToken, signed, atom, literal, more, opening, bodyCount, ruleLine, pair, minimiseLine, symbolLine, ofKind, fits, sum, insert, accepted, refused}
 
 -- ---- `plan.aspif`
 

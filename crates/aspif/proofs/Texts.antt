@@ -1,22 +1,19 @@
 -- Line 1, and the text as a whole. Assumes nothing.
-use mathlib.Core.Path.{_≡_, refl, sym, ap, ap₂, _∙_}
+use mathlib.Core.Path.{_≡_, refl, ap}
 use mathlib.Core.Bool.{Bool, true, false, _&&_}
 use mathlib.Core.List.{List, [], _∷_, _++_}
-use mathlib.Core.Logic.{⊎-elim}
-use Prim.Native.Nat.{ℕ, zero, suc, _+_, _-_, _≤_, _<_}
+use Prim.Native.Nat.{ℕ, suc, _+_, _≤_, _<_}
 use native.Mathlib.Omega.{arith}
 use native.Mathlib.Numerals.{add-one}
-use lib.Dec.{eqb, ltb}
-use lib.ListN.{length, getD, take, drop, drop-of-length-le}
+use lib.Dec.{eqb}
+use lib.ListN.{length, getD, drop, drop-of-length-le}
 use lib.Seq.{drop-cons}
 use borrow.Author.Tests.{eq-eqb, ne-eqb, eqb-true, lt-ltb, le-ltb}
-use Rattle.asp.specs.Sets.{pick}
 use Rattle.asp.specs.Program.{highest}
 use Rattle.asp.specs.Tables.{span}
-use Rattle.aspif_lines.specs.Text.{next, nil, same, header, line, pieces, headed, opened, lines, textOf, Reading, Answer, refused, accepted, sum}
+use Rattle.aspif_lines.specs.Text.{same, header, line, pieces, headed, opened, lines, textOf, refused, sum}
 use Rattle.aspif_lines.specs.Seen.{follow, bytesAt}
-use Rattle.aspif.specs.Store.{Lists, Sized, readingOf, Sound, Within, RulesSound, SymbolsSound, noCounts}
-use Rattle.aspif_lines.proofs.Tokens.{lt-or-le}
+use Rattle.aspif.specs.Store.{Lists, Sized, readingOf, Sound, Within, noCounts}
 use Rattle.aspif.proofs.Onwards.{pieces-some}
 
 pub same-true : (k l : List ℕ) → same k l ≡ true → k ≡ l

@@ -1,7 +1,7 @@
 -- A text copied to the front of a buffer. Assumes nothing.
-use mathlib.Core.Path.{_≡_, refl, sym, ap, _∙_}
+use mathlib.Core.Path.{_≡_, refl, ap}
 use mathlib.Core.List.{List, [], _∷_, _++_, append-assoc}
-use Prim.Native.Nat.{ℕ, zero, suc, _+_, _-_, _≤_, _<_}
+use Prim.Native.Nat.{ℕ, suc, _+_, _≤_, _<_}
 use native.Mathlib.Omega.{arith}
 use native.Mathlib.Numerals.{add-one}
 use lib.ListN.{length, getD, drop, set, length-append, length-drop}
@@ -10,7 +10,6 @@ use borrow.Author.Tests.{lt-ltb, le-ltb}
 use Rattle.asp.specs.Tables.{span}
 use Rattle.aspif_lines.specs.Seen.{bytesAt}
 use Rattle.aspif.specs.Write.{writtenOf, bufferOf}
-use Rattle.aspif.specs.declared.write.Written.{Written}
 use Rattle.aspif.specs.declared.write.Written.the-variants.{Length, Short}
 use Rattle.aspif_lines.proofs.Spans.{span-snoc, span-length}
 

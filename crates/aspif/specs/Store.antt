@@ -1,16 +1,16 @@
 -- The tables of a program while its lines are read, and what the code's answers about them mean. Assumes nothing: these are definitions.
 use mathlib.Core.Path.{_≡_}
-use mathlib.Core.Bool.{Bool, true, false}
+use mathlib.Core.Bool.{true}
 use mathlib.Core.List.{List, [], _∷_, _++_}
-use Prim.Native.Nat.{ℕ, zero, suc, _+_, _*_, _≤_, _<_, max}
-use lib.Dec.{eqb, leb}
-use lib.IntN.{ℤ, pos, natAbs}
-use lib.ListN.{length, getD, take, drop}
+use Prim.Native.Nat.{ℕ, _+_, _≤_, _<_, max}
+use lib.Dec.{eqb}
+use lib.IntN.{ℤ, natAbs}
+use lib.ListN.{length, drop}
 use lib.Signed.{ltZ}
 use Rattle.asp.specs.Sets.{pick}
 use Rattle.asp.specs.Program.{Rule, Entry, Symbol, Program, highest, ruleAtoms, atoms, All, ProgramIn}
-use Rattle.asp.specs.Tables.{span, literalsAt, rowAt, rulesOf, entriesOf, symbolsOf, Tables, programOf, Formed}
-use Rattle.aspif_lines.specs.Text.{Read, got, bad, nil, ruleLine, Minimise, minimiseLine, symbolLine, Reading, insert, sum, ruleSize, conditionSize, nameSize, limits, Step, stop, last, goes, Answer, accepted, refused, lines, pieces, none}
+use Rattle.asp.specs.Tables.{literalsAt, rowAt, rulesOf, entriesOf, symbolsOf, Tables, programOf, Formed}
+use Rattle.aspif_lines.specs.Text.{got, bad, nil, ruleLine, Minimise, minimiseLine, symbolLine, Reading, insert, sum, ruleSize, conditionSize, nameSize, limits, Step, stop, last, goes, Answer, accepted, refused, lines, pieces, none}
 use Rattle.aspif_lines.specs.Seen.{bytesAt}
 use Rattle.aspif.specs.declared.table.Counts.{Counts}
 use Rattle.aspif.specs.declared.add.Turn.{Turn}

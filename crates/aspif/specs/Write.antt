@@ -1,9 +1,8 @@
 -- Write-out. Document 01, "The calls": "Write-out gives line 1, the statements in the order read, without comments, and the `0` line, at the front of a
 -- lent buffer, and answers their length." Assumes nothing: these are definitions.
-use mathlib.Core.Bool.{Bool, true, false}
-use mathlib.Core.List.{List, [], _∷_, _++_}
+use mathlib.Core.List.{List, _++_}
 use Prim.Native.Nat.{ℕ}
-use lib.Dec.{leb, ltb}
+use lib.Dec.{ltb}
 use lib.ListN.{length, drop}
 use Rattle.asp.specs.Sets.{pick}
 use Rattle.aspif.specs.declared.write.Written.{Written}

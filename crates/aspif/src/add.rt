@@ -18,9 +18,8 @@ use aspif_lines::rule::read_rule;
 use aspif_lines::symbol::SymbolLine;
 use aspif_lines::symbol::read_symbol;
 ghost use mathlib.Core.Path.{_≡_};
-ghost use Prim.Native.Nat.{ℕ, _+_, _*_, _<_, _≤_};
+ghost use Prim.Native.Nat.{ℕ, _+_, _≤_};
 ghost use lib.ListN.{length, drop};
-ghost use lib.IntN.{ℤ, pos};
 ghost use Rattle.asp.specs.Tables.{literalsAt};
 ghost use Rattle.aspif_lines.specs.Seen.{bytesAt};
 ghost use Rattle.aspif.specs.Store.{Within, RulesSound, SymbolsSound, Descending, AddedRule, AddedMinimise, AddedSymbol, otherTurn};
@@ -151,16 +150,16 @@ pub fn add_symbol<'a>(
 pub fn add_other(s: &[u8], at: usize, kind: u32, n: Counts, end: usize) -> Turn
     ensures { λ r. ⌜ r ≡ otherTurn kind (drop at (now (s .entry))) n end ⌝ }
 {
-    if kind == 0 {
-        if is_ended(s, at) {
-            return Turn::Last {
-                counts: Counts { text: end, ..n },
-            };
+    match kind {
+        0 => {
+            if is_ended(s, at) {
+                return Turn::Last {
+                    counts: Counts { text: end, ..n },
+                };
+            }
+            Turn::Refused { code: 2 }
         }
-        return Turn::Refused { code: 2 };
+        10 => Turn::Goes { counts: n },
+        _ => Turn::Refused { code: 3 },
     }
-    if kind == 10 {
-        return Turn::Goes { counts: n };
-    }
-    Turn::Refused { code: 3 }
 }

@@ -79,14 +79,10 @@ pub fn take_line(
     let Number::Value { value: kind, next } = k else {
         return Turn::Refused { code: k.code() };
     };
-    if kind == 1 {
-        return add_rule(s, next, pool, rules, n, end);
+    match kind {
+        1 => add_rule(s, next, pool, rules, n, end),
+        2 => add_minimise(s, next, priorities, literals, weights, levels, n, end),
+        4 => add_symbol(s, next, text, conditions, symbols, n, end),
+        _ => add_other(s, next, kind, n, end),
     }
-    if kind == 2 {
-        return add_minimise(s, next, priorities, literals, weights, levels, n, end);
-    }
-    if kind == 4 {
-        return add_symbol(s, next, text, conditions, symbols, n, end);
-    }
-    add_other(s, next, kind, n, end)
 }

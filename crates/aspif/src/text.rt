@@ -171,7 +171,7 @@ fn read_lines(
 }
 
 // The same bytes.
-fn is_same<'a>(a: &'a [u8], b: &'a [u8]) -> bool
+pub fn is_same<'a>(a: &'a [u8], b: &'a [u8]) -> bool
     ensures { λ r. ⌜ r ≡ same (now (a .entry)) (now (b .entry)) ⌝ }
 {
     if a.len() != b.len() {

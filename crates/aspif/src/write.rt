@@ -1,6 +1,6 @@
 // Write-out: the stored text, which is the text of the load less its comment lines, at the front of a lent buffer.
 ghost use mathlib.Core.Path.{_≡_};
-ghost use Prim.Native.Nat.{ℕ, _+_, _<_, _≤_};
+ghost use Prim.Native.Nat.{_<_, _≤_};
 ghost use lib.ListN.{length};
 ghost use Rattle.aspif_lines.specs.Seen.{bytesAt};
 ghost use Rattle.aspif.specs.Write.{writtenOf, bufferOf};

@@ -1,18 +1,17 @@
 -- Parts of tables, and lists read one by one. Assumes nothing.
-use mathlib.Core.Path.{_≡_, refl, sym, ap, ap₂, _∙_}
-use mathlib.Core.Bool.{Bool, true, false, _&&_}
+use mathlib.Core.Path.{_≡_, refl, ap, _∙_}
+use mathlib.Core.Bool.{false, _&&_}
 use mathlib.Core.List.{List, [], _∷_, _++_, map}
 use Prim.Native.Nat.{ℕ, zero, suc, _+_, _-_, _*_, _<_, _≤_, max}
 use native.Mathlib.Omega.{arith}
-use native.Mathlib.Numerals.{add-one}
 use lib.Dec.{eqb, ltb}
 use borrow.Author.Tests.{eq-eqb, eqb-false, ltb-false}
-use lib.IntN.{ℤ, pos, natAbs}
+use lib.IntN.{ℤ, pos}
 use lib.ListN.{length, getD, set, length-set}
 use lib.Seq.{getD-set-same, getD-set-other}
-use Rattle.asp.specs.Program.{Entry, highest}
-use Rattle.aspif_lines.specs.Text.{next, nameByte, within, Read, got, bad, bind, more}
-use Rattle.asp.specs.Tables.{Row, rowAt, entryAt, span, literalsAt}
+use Rattle.asp.specs.Program.{highest}
+use Rattle.aspif_lines.specs.Text.{Read, got, bad, more}
+use Rattle.asp.specs.Tables.{entryAt, span, literalsAt}
 use Rattle.aspif_lines.specs.Seen.{Pushed, entriesAt, bytesAt, Kept}
 
 pub append-nil : {A : Type 0} (xs : List A) → xs ++ [] ≡ xs

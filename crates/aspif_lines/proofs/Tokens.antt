@@ -1,5 +1,5 @@
 -- The rest of a line at a position, and the digits that it begins with, one by one. Assumes nothing.
-use mathlib.Core.Path.{_≡_, refl, sym, ap, _∙_}
+use mathlib.Core.Path.{_≡_, refl, sym, _∙_}
 use mathlib.Core.Bool.{Bool, true, false, not, _&&_, and-eq-true-iff}
 use mathlib.Core.List.{List, [], _∷_}
 use mathlib.Core.Logic.{_⊎_, inl, inr, ⊎-elim}
@@ -8,9 +8,9 @@ use native.Mathlib.Omega.{arith}
 use native.Mathlib.Numerals.{add-one}
 use lib.Dec.{leb, ltb, eqb}
 use lib.IntN.{ℤ, pos, negsuc, natAbs}
-use lib.ListN.{length, getD, drop, drop-of-length-le, List·getD-eq-default}
+use lib.ListN.{length, getD, drop, drop-of-length-le}
 use lib.Seq.{drop-cons, drop-drop}
-use borrow.Author.Tests.{ltb-true, ltb-false, leb-true, leb-false, le-leb, lt-leb, lt-ltb, le-ltb, ne-eqb, eqb-true}
+use borrow.Author.Tests.{ltb-true, ltb-false, leb-true, le-leb, lt-leb, ne-eqb, eqb-true}
 use Rattle.asp.specs.Sets.{pick}
 use Rattle.aspif_lines.specs.Text.{Read, got, bad, bind, within, token, ranged, number, natural, withSign, signing, signedToken, signedUpTo, signed, field, next, isDigit, digits, decimal, over, nil, nameByte}
 use Rattle.aspif_lines.specs.Seen.{capped, cutSigned, cappedSigned}

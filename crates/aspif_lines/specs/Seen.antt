@@ -1,10 +1,10 @@
 -- What the answers of the code's readers mean: a position in a line stands for the rest of the line from there. Assumes nothing: these are definitions.
 use mathlib.Core.Path.{_≡_}
-use mathlib.Core.Bool.{Bool, true, false}
-use mathlib.Core.List.{List, [], _∷_, _++_, map}
-use Prim.Native.Nat.{ℕ, zero, suc, _+_, _*_, _≤_, _<_, min, max}
+use mathlib.Core.Bool.{false}
+use mathlib.Core.List.{List, [], _∷_, map}
+use Prim.Native.Nat.{ℕ, _+_, _≤_, _<_, min, max}
 use lib.IntN.{ℤ, pos, negsuc, natAbs}
-use lib.ListN.{length, getD, take, drop}
+use lib.ListN.{length, getD, drop}
 use Rattle.asp.specs.Program.{Rule, Entry, Symbol, highest}
 use Rattle.asp.specs.Tables.{span, literalsAt, entryAt, Row, rowAt, named}
 use Rattle.aspif_lines.specs.Text.{Read, got, bad, withSign, Opening, ruleOf, Minimise, pieces}

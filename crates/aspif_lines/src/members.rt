@@ -4,10 +4,10 @@ use super::field::read_atom;
 use super::field::read_literal;
 use asp::literal::atom;
 ghost use mathlib.Core.Path.{_≡_};
-ghost use mathlib.Core.List.{[], _∷_, _++_};
-ghost use Prim.Native.Nat.{ℕ, _+_, _<_, _≤_, max};
+ghost use mathlib.Core.List.{[]};
+ghost use Prim.Native.Nat.{_+_, _<_, _≤_, max};
 ghost use lib.ListN.{length, drop};
-ghost use lib.IntN.{ℤ, pos, natAbs};
+ghost use lib.IntN.{pos, natAbs};
 ghost use Rattle.aspif_lines.specs.Text.{member, more};
 ghost use Rattle.aspif_lines.specs.Seen.{refusal, seenSigned, Small, seenLits, TopOf, Kept};
 

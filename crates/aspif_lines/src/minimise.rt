@@ -14,7 +14,7 @@ use super::room::Priorities;
 use super::room::Weights;
 ghost use mathlib.Core.Path.{_≡_};
 ghost use mathlib.Core.List.{[]};
-ghost use Prim.Native.Nat.{ℕ, _+_, _<_, _≤_};
+ghost use Prim.Native.Nat.{_+_, _<_, _≤_};
 ghost use lib.ListN.{length, drop};
 ghost use lib.IntN.{ℤ, pos, natAbs};
 ghost use Rattle.aspif_lines.specs.Text.{more, pair, minimiseLine};

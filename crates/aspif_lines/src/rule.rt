@@ -10,10 +10,10 @@ use super::room::Pool;
 ghost use mathlib.Core.Bool.{_&&_};
 ghost use mathlib.Core.List.{[]};
 ghost use mathlib.Core.Path.{_≡_};
-ghost use Prim.Native.Nat.{ℕ, _+_, _<_, _≤_};
+ghost use Prim.Native.Nat.{_+_, _<_, _≤_};
 ghost use lib.Dec.{eqb, ltb};
 ghost use lib.ListN.{length, drop};
-ghost use lib.IntN.{ℤ, pos};
+ghost use lib.IntN.{pos};
 ghost use Rattle.aspif_lines.specs.Text.{opening, bodyCount, ruleLine};
 ghost use Rattle.aspif_lines.specs.Seen.{refusal, seenNumber, Between, seenOpens, OpensSmall, seenRule, RuleSmall, RuleTop, Kept};
 

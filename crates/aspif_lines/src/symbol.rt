@@ -10,9 +10,9 @@ use super::room::Conditions;
 use super::token::byte_at;
 ghost use mathlib.Core.Path.{_≡_};
 ghost use mathlib.Core.List.{[]};
-ghost use Prim.Native.Nat.{ℕ, _+_, _<_, _≤_};
+ghost use Prim.Native.Nat.{_+_, _<_, _≤_};
 ghost use lib.ListN.{length, drop};
-ghost use lib.IntN.{ℤ, pos};
+ghost use lib.IntN.{pos};
 ghost use Rattle.aspif_lines.specs.Text.{within, field, more, nameByte, symbolLine};
 ghost use Rattle.aspif_lines.specs.Seen.{seenName, NameIn, seenSymbol, SymbolSmall, SymbolTop, Kept};
 

@@ -1,7 +1,7 @@
 // Numbers by their form: decimal digits with no leading zero that make up a whole field.
 ghost use mathlib.Core.Bool.{_&&_};
 ghost use mathlib.Core.Path.{_≡_};
-ghost use Prim.Native.Nat.{ℕ, _+_, _-_, _*_, _<_, _≤_, min};
+ghost use Prim.Native.Nat.{_+_, _-_, _*_, _<_, _≤_, min};
 ghost use lib.Dec.{eqb, ltb};
 ghost use lib.ListN.{length, drop};
 ghost use Rattle.aspif_lines.specs.Text.{next, isDigit, digits, decimal, over, token, field, signedToken};

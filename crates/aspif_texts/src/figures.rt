@@ -2,6 +2,7 @@
 use asp::literal::atom;
 use asp::literal::is_negative;
 use aspif::text::Stored;
+use aspif_lines::token::byte_at;
 ghost use Prim.Native.Nat.{_≤_};
 
 pub struct Figures {
@@ -18,34 +19,16 @@ pub struct Figures {
 }
 
 pub fn equal(a: Figures, b: Figures) -> bool {
-    if a.atoms != b.atoms {
-        return false;
-    }
-    if a.rules != b.rules {
-        return false;
-    }
-    if a.rulesum != b.rulesum {
-        return false;
-    }
-    if a.entries != b.entries {
-        return false;
-    }
-    if a.entrysum != b.entrysum {
-        return false;
-    }
-    if a.symbols != b.symbols {
-        return false;
-    }
-    if a.symbolsum != b.symbolsum {
-        return false;
-    }
-    if a.text != b.text {
-        return false;
-    }
-    if a.textsum != b.textsum {
-        return false;
-    }
-    a.levels == b.levels
+    a.atoms == b.atoms
+        && a.rules == b.rules
+        && a.rulesum == b.rulesum
+        && a.entries == b.entries
+        && a.entrysum == b.entrysum
+        && a.symbols == b.symbols
+        && a.symbolsum == b.symbolsum
+        && a.text == b.text
+        && a.textsum == b.textsum
+        && a.levels == b.levels
 }
 
 pub fn literal(t: &[i32], i: usize) -> i32 {
@@ -69,7 +52,7 @@ fn weight(t: &[u32], i: usize) -> usize {
 }
 
 pub fn byte(t: &[u8], i: usize) -> usize {
-    if i < t.len() { wide8(t[i]) } else { 0 }
+    wide8(byte_at(t, i))
 }
 
 fn cell(t: &[u16], i: usize) -> usize {

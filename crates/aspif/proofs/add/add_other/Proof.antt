@@ -8,16 +8,16 @@ is-ended-requires : tie.Need-is-ended-requires
 is-ended-requires c κs = search needs
 
 returns : tie.Need-returns
-returns c = rw (eq-eqb _ 0 (c .before .before .if1 .taken), ← c .before .is-ended .ensures, (c .if2 .taken))
+returns c = rw (eq-eqb _ 0 (c .before .before .match .keys1), ← c .before .is-ended .ensures, (c .if1 .taken))
 
 returns-2 : tie.Need-returns-2
-returns-2 c = rw (eq-eqb _ 0 (c .before .before .if1 .taken), ← c .before .is-ended .ensures, (c .if2 .left))
+returns-2 c = rw (eq-eqb _ 0 (c .before .before .match .keys1), ← c .before .is-ended .ensures, (c .if1 .left))
 
 returns-3 : tie.Need-returns-3
-returns-3 c = rw (ne-eqb _ 0 (c .before .if1 .left), eq-eqb _ 10 (c .if3 .taken))
+returns-3 c = rw (c .match .keys2)
 
 returns-4 : tie.Need-returns-4
-returns-4 c = rw (ne-eqb _ 0 (c .before .if1 .left), ne-eqb _ 10 (c .if3 .left))
+returns-4 c = rw (ne-eqb _ 0 (c .match .rest .0 .1), ne-eqb _ 10 (c .match .rest .1))
 
 pub add-other-spec : {M : Type 1} → statement M
 add-other-spec = tie.close (tie.spec is-ended-requires returns returns-2 returns-3 returns-4)

@@ -1,13 +1,11 @@
 -- `aspif::line::append_line` meets its contract. Assumes nothing.
-use mathlib.Core.Path.{_≡_, refl, sym, ap, _∙_}
+use mathlib.Core.Path.{_≡_, _∙_}
 use Prim.Native.Nat.{ℕ, _+_, _-_, _≤_, _<_}
 use native.Mathlib.Omega.{arith}
-use lib.ListN.{length, getD, set, length-set}
-use lib.Seq.{getD-set-same, getD-set-other}
+use lib.ListN.{length, getD, length-set}
 use Rattle.aspif_lines.specs.Seen.{Kept}
 use Rattle.aspif_lines.proofs.Spans.{kept-refl, kept-set}
 use Rattle.aspif.proofs.Pieces.{copied-more, appended, appended-part}
-use borrow.Author.Needs.{needs}
 use Rattle.aspif.proofs.line.append_line.Statement.{statement}
 use Rattle.aspif.proofs.line.append_line.Tie as tie
 

@@ -1,10 +1,9 @@
 -- `aspif::line::line_end` meets its contract. Assumes nothing.
-use mathlib.Core.Path.{_≡_, refl, sym, ap, _∙_}
-use Prim.Native.Nat.{ℕ, _+_, _-_, _≤_, _<_}
+use mathlib.Core.Path.{_≡_}
+use Prim.Native.Nat.{ℕ, _-_, _≤_, _<_}
 use native.Mathlib.Omega.{arith}
 use lib.ListN.{length, getD}
 use Rattle.aspif.proofs.Pieces.{pieces-at, passed}
-use borrow.Author.Needs.{needs}
 use Rattle.aspif.proofs.line.line_end.Statement.{statement}
 use Rattle.aspif.proofs.line.line_end.Tie as tie
 

@@ -40,55 +40,50 @@ returns-2 c =
     let append-line = c .before .before .before .before .before .before .before .before .append-line in
     let read-number = c .before .before .before .before .before .before .before .read-number in
     let k = c .before .before .before .before .before .k in
-    let if1 = c .before .before .before .if1 in
     let add-rule = c .add-rule in
-    rule-leads _ _ _ _ _ (pre .0) (append-line .ensures .0) (append-line .ensures .1) (append-line .ensures .2) _ _ (sym (read-number .ensures .0) ∙ ap (seenNumber (args .s .now)) (k .given .1)) (add-rule .last .1 .1 .0) (add-rule .last .1 .1 .1 .0) (if1 .taken) (add-rule .result) (add-rule .ensures)
+    rule-leads _ _ _ _ _ (pre .0) (append-line .ensures .0) (append-line .ensures .1) (append-line .ensures .2) _ _ (sym (read-number .ensures .0) ∙ ap (seenNumber (args .s .now)) (k .given .1)) (add-rule .last .1 .1 .0) (add-rule .last .1 .1 .1 .0) (c .before .before .before .match2 .keys1) (add-rule .result) (add-rule .ensures)
 
 add-minimise-requires : tie.Need-add-minimise-requires
 add-minimise-requires c κs = search needs
 
 returns-3 : tie.Need-returns-3
 returns-3 c =
-    let pre = c .before .before .before .before .before .before .before .before .before .before .before .before .before .before .pre in
-    let args = c .before .before .before .before .before .before .before .before .before .before .before .before .before .before .args in
-    let append-line = c .before .before .before .before .before .before .before .before .before .before .before .append-line in
-    let read-number = c .before .before .before .before .before .before .before .before .before .before .read-number in
-    let k = c .before .before .before .before .before .before .before .before .k in
-    let if2 = c .before .before .before .before .before .if2 in
+    let pre = c .before .before .before .before .before .before .before .before .before .before .before .before .before .pre in
+    let args = c .before .before .before .before .before .before .before .before .before .before .before .before .before .args in
+    let append-line = c .before .before .before .before .before .before .before .before .before .before .append-line in
+    let read-number = c .before .before .before .before .before .before .before .before .before .read-number in
+    let k = c .before .before .before .before .before .before .before .k in
     let add-minimise = c .add-minimise in
-    minimise-leads _ _ _ _ _ (pre .0) (append-line .ensures .0) (append-line .ensures .1) (append-line .ensures .2) _ _ (sym (read-number .ensures .0) ∙ ap (seenNumber (args .s .now)) (k .given .1)) (add-minimise .last .1 .1 .0) (add-minimise .last .1 .1 .1 .0) (add-minimise .last .1 .1 .1 .1 .0) (add-minimise .last .1 .1 .1 .1 .1 .0) (if2 .taken) (add-minimise .result) (add-minimise .ensures)
+    minimise-leads _ _ _ _ _ (pre .0) (append-line .ensures .0) (append-line .ensures .1) (append-line .ensures .2) _ _ (sym (read-number .ensures .0) ∙ ap (seenNumber (args .s .now)) (k .given .1)) (add-minimise .last .1 .1 .0) (add-minimise .last .1 .1 .1 .0) (add-minimise .last .1 .1 .1 .1 .0) (add-minimise .last .1 .1 .1 .1 .1 .0) (c .before .before .before .before .before .match2 .keys2) (add-minimise .result) (add-minimise .ensures)
 
 add-symbol-requires : tie.Need-add-symbol-requires
 add-symbol-requires c κs =
-    let args = c .before .before .before .before .before .before .before .before .before .before .before .before .before .before .args in
-    let pre = c .before .before .before .before .before .before .before .before .before .before .before .before .before .before .pre in
-    let append-line = c .before .before .before .before .before .before .before .before .before .before .before .append-line in
+    let args = c .before .before .before .before .before .before .before .before .before .before .before .before .args in
+    let pre = c .before .before .before .before .before .before .before .before .before .before .before .before .pre in
+    let append-line = c .before .before .before .before .before .before .before .before .before .append-line in
     (symbol-ready (args .s .now) _ _ _ _ (pre .0) (append-line .ensures .0) (append-line .ensures .1) (append-line .ensures .2), pre .1, append-line .ensures .0, omega (arith, append-line .ensures .0, pre .2), pre .0 .sized .conditions, pre .0 .sized .symbols, append-line .ensures .3)
 
 returns-4 : tie.Need-returns-4
 returns-4 c =
-    let pre = c .before .before .before .before .before .before .before .before .before .before .before .before .before .before .before .pre in
-    let args = c .before .before .before .before .before .before .before .before .before .before .before .before .before .before .before .args in
-    let append-line = c .before .before .before .before .before .before .before .before .before .before .before .before .append-line in
-    let read-number = c .before .before .before .before .before .before .before .before .before .before .before .read-number in
-    let k = c .before .before .before .before .before .before .before .before .before .k in
-    let if3 = c .before .before .before .before .before .if3 in
+    let pre = c .before .before .before .before .before .before .before .before .before .before .before .before .before .pre in
+    let args = c .before .before .before .before .before .before .before .before .before .before .before .before .before .args in
+    let append-line = c .before .before .before .before .before .before .before .before .before .before .append-line in
+    let read-number = c .before .before .before .before .before .before .before .before .before .read-number in
+    let k = c .before .before .before .before .before .before .before .k in
     let add-symbol = c .add-symbol in
-    symbol-leads _ _ _ _ _ (pre .0) (append-line .ensures .0) (append-line .ensures .1) (append-line .ensures .2) _ _ (sym (read-number .ensures .0) ∙ ap (seenNumber (args .s .now)) (k .given .1)) (add-symbol .last .1 .1 .1 .0) (add-symbol .last .1 .1 .1 .1 .0) (if3 .taken) (add-symbol .result) (add-symbol .ensures)
+    symbol-leads _ _ _ _ _ (pre .0) (append-line .ensures .0) (append-line .ensures .1) (append-line .ensures .2) _ _ (sym (read-number .ensures .0) ∙ ap (seenNumber (args .s .now)) (k .given .1)) (add-symbol .last .1 .1 .1 .0) (add-symbol .last .1 .1 .1 .1 .0) (c .before .before .before .before .before .match2 .keys3) (add-symbol .result) (add-symbol .ensures)
 
 add-other-requires : tie.Need-add-other-requires
 add-other-requires c κs = search needs
 
 returns-5 : tie.Need-returns-5
 returns-5 c =
-    let pre = c .before .before .before .before .before .before .before .before .before .before .before .pre in
-    let args = c .before .before .before .before .before .before .before .before .before .before .before .args in
-    let append-line = c .before .before .before .before .before .before .before .before .append-line in
-    let read-number = c .before .before .before .before .before .before .before .read-number in
-    let k = c .before .before .before .before .before .k in
-    let if1 = c .before .before .before .if1 in
-    let if2 = c .before .before .if2 in
-    other-leads _ _ _ _ _ (pre .0) (append-line .ensures .0) (append-line .ensures .1) (append-line .ensures .2) _ _ (sym (read-number .ensures .0) ∙ ap (seenNumber (args .s .now)) (k .given .1)) (if1 .left) (if2 .left) (c .before .if3 .left) _ (c .add-other .ensures)
+    let pre = c .before .before .before .before .before .before .before .before .before .pre in
+    let args = c .before .before .before .before .before .before .before .before .before .args in
+    let append-line = c .before .before .before .before .before .before .append-line in
+    let read-number = c .before .before .before .before .before .read-number in
+    let k = c .before .before .before .k in
+    other-leads _ _ _ _ _ (pre .0) (append-line .ensures .0) (append-line .ensures .1) (append-line .ensures .2) _ _ (sym (read-number .ensures .0) ∙ ap (seenNumber (args .s .now)) (k .given .1)) (c .before .match2 .rest .0 .0 .1) (c .before .match2 .rest .0 .1) (c .before .match2 .rest .1) _ (c .add-other .ensures)
 
 pub take-line-spec : {M : Type 1} → statement M
 take-line-spec =
@@ -101,10 +96,10 @@ take-line-spec =
     code-requires
     returns
     add-rule-requires
-    returns-2
     add-minimise-requires
-    returns-3
     add-symbol-requires
-    returns-4
     add-other-requires
+    returns-2
+    returns-3
+    returns-4
     returns-5)

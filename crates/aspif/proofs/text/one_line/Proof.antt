@@ -1,7 +1,7 @@
 -- `aspif::text::one_line` meets its contract. Assumes nothing.
 use native.Mathlib.Omega.{arith}
-use Prim.Native.Nat.{_+_, _-_}
-use lib.ListN.{length, take, drop}
+use Prim.Native.Nat.{_-_}
+use lib.ListN.{take, drop}
 use Rattle.aspif.specs.Store.{lists}
 use Rattle.aspif.proofs.Onwards.{onward-leads, short}
 use borrow.Author.Needs.{needs}

@@ -1,6 +1,5 @@
 -- `aspif_lines::field::is_ended` meets its contract. Assumes nothing.
 use Rattle.aspif_lines.proofs.Tokens.{nil-at}
-use borrow.Author.Needs.{needs}
 use Rattle.aspif_lines.proofs.field.is_ended.Statement.{statement}
 use Rattle.aspif_lines.proofs.field.is_ended.Tie as tie
 

@@ -1,6 +1,5 @@
 -- `aspif_lines::field::is_within` meets its contract. Assumes nothing.
 use borrow.Author.Tests.{le-leb, lt-leb}
-use borrow.Author.Needs.{needs}
 use Rattle.aspif_lines.proofs.field.is_within.Statement.{statement}
 use Rattle.aspif_lines.proofs.field.is_within.Tie as tie
 

@@ -1,14 +1,14 @@
 -- `aspif_lines::minimise::read_pairs` meets its contract. Assumes nothing.
-use mathlib.Core.Path.{_≡_, refl, sym, ap, _∙_}
-use mathlib.Core.List.{[], _∷_, _++_}
-use Prim.Native.Nat.{ℕ, _+_, _-_, _≤_, _<_, max}
+use mathlib.Core.Path.{_≡_, sym, ap, _∙_}
+use mathlib.Core.List.{[]}
+use Prim.Native.Nat.{_+_, _-_, _≤_, _<_, max}
 use native.Mathlib.Omega.{arith}
 use native.Mathlib.Nat.{sub-zero}
 use lib.IntN.{pos, natAbs}
 use Rattle.asp.specs.Program.{highest}
 use mir.Syntax.{w32}
 use mir.Val.{toZ, ofZ}
-use lib.ListN.{length, getD, drop}
+use lib.ListN.{length, drop}
 use Rattle.aspif_lines.specs.Text.{pair, more}
 use Rattle.asp.specs.Tables.{span, literalsAt}
 use Rattle.aspif_lines.specs.Seen.{entriesAt, Kept, seenPair}

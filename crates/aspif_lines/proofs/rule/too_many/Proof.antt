@@ -1,6 +1,5 @@
 -- `aspif_lines::rule::too_many` meets its contract. Assumes nothing.
 use borrow.Author.Tests.{eq-eqb, ne-eqb}
-use borrow.Author.Needs.{needs}
 use Rattle.aspif_lines.proofs.rule.too_many.Statement.{statement}
 use Rattle.aspif_lines.proofs.rule.too_many.Tie as tie
 

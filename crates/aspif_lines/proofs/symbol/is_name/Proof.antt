@@ -1,6 +1,5 @@
 -- `aspif_lines::symbol::is_name` meets its contract. Assumes nothing.
 use borrow.Author.Tests.{le-leb, lt-leb}
-use borrow.Author.Needs.{needs}
 use Rattle.aspif_lines.proofs.symbol.is_name.Statement.{statement}
 use Rattle.aspif_lines.proofs.symbol.is_name.Tie as tie
 

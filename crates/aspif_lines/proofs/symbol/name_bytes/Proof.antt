@@ -1,11 +1,11 @@
 -- `aspif_lines::symbol::name_bytes` meets its contract. Assumes nothing.
-use mathlib.Core.Path.{_≡_, refl, sym, ap, _∙_}
-use mathlib.Core.List.{[], _∷_, _++_}
-use Prim.Native.Nat.{ℕ, _+_, _-_, _≤_, _<_}
+use mathlib.Core.Path.{_≡_, sym, _∙_}
+use mathlib.Core.List.{[]}
+use Prim.Native.Nat.{_+_, _-_, _≤_}
 use native.Mathlib.Omega.{arith}
 use native.Mathlib.Nat.{sub-zero}
-use lib.ListN.{length, getD, drop}
-use mathlib.Core.Bool.{true, false}
+use lib.ListN.{length, drop}
+use mathlib.Core.Bool.{true}
 use Rattle.aspif_lines.specs.Text.{within, next}
 use Rattle.aspif_lines.specs.Text.{nameByte, more}
 use Rattle.asp.specs.Tables.{span}

@@ -1,5 +1,5 @@
 -- `aspif_lines::token::byte_at` meets its contract. Assumes nothing.
-use mathlib.Core.Path.{sym, _∙_}
+use mathlib.Core.Path.{sym}
 use Rattle.aspif_lines.proofs.Tokens.{next-at, next-past}
 use borrow.Author.Needs.{needs}
 use Rattle.aspif_lines.proofs.token.byte_at.Statement.{statement}

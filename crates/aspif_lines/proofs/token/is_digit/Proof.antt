@@ -1,6 +1,5 @@
 -- `aspif_lines::token::is_digit` meets its contract. Assumes nothing.
 use borrow.Author.Tests.{le-leb, lt-leb}
-use borrow.Author.Needs.{needs}
 use Rattle.aspif_lines.proofs.token.is_digit.Statement.{statement}
 use Rattle.aspif_lines.proofs.token.is_digit.Tie as tie
 

@@ -1,5 +1,5 @@
 -- `aspif_lines::token::is_over` meets its contract. Assumes nothing.
-use mathlib.Core.Path.{sym, _∙_}
+use mathlib.Core.Path.{sym}
 use Rattle.aspif_lines.proofs.Tokens.{over-at, over-past}
 use borrow.Author.Needs.{needs}
 use Rattle.aspif_lines.proofs.token.is_over.Statement.{statement}

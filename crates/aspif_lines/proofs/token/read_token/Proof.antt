@@ -1,7 +1,6 @@
 -- `aspif_lines::token::read_token` meets its contract. Assumes nothing.
 use native.Mathlib.Omega.{arith}
 use Prim.Native.Nat.{_-_}
-use mathlib.Core.Path.{_∙_, sym}
 use borrow.Author.Tests.{lt-ltb, le-ltb}
 use Rattle.aspif_lines.proofs.Tokens.{tokened}
 use borrow.Author.Needs.{needs}

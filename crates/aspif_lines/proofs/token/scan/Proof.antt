@@ -1,9 +1,9 @@
 -- `aspif_lines::token::scan` meets its contract. Assumes nothing.
-use mathlib.Core.Path.{_≡_, refl, sym, ap, ap₂, _∙_}
+use mathlib.Core.Path.{_≡_, refl, ap, _∙_}
 use mathlib.Core.Bool.{true, false}
 use Prim.Native.Nat.{ℕ, _+_, _-_, _*_, _≤_, _<_, min}
 use native.Mathlib.Omega.{arith}
-use lib.ListN.{length, getD, drop}
+use lib.ListN.{length, drop}
 use Rattle.aspif_lines.specs.Text.{next, isDigit, digits, decimal}
 use Rattle.aspif_lines.proofs.Tokens.{digit-low, digit-in, digits-more, digits-none, cut}
 use borrow.Author.Needs.{needs}

@@ -1,7 +1,7 @@
 -- `aspif_texts::figures::magnitude` meets its contract. Assumes nothing.
-use mathlib.Core.Path.{_≡_, sym}
+use mathlib.Core.Path.{_≡_}
 use mathlib.Core.Bool.{false}
-use Prim.Native.Nat.{ℕ, _≤_, suc}
+use Prim.Native.Nat.{_≤_}
 use native.Mathlib.Omega.{arith}
 use lib.IntN.{ℤ, pos, negsuc, natAbs}
 use lib.Signed.{ltZ}
