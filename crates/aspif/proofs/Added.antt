@@ -16,7 +16,8 @@ use Rattle.aspif_lines.specs.Seen.{bytesAt, entriesAt, Kept, Positive, Pushed}
 use Rattle.aspif.specs.Store.{RulesSound, RuleAdded, ruleCounts, SymbolsSound, SymbolAdded, symbolCounts, MinimiseAdded, minimiseCounts}
 use Rattle.aspif.specs.declared.table.Counts.{Counts}
 use Rattle.aspif_lines.proofs.Tokens.{lt-or-le}
-use Rattle.aspif_lines.proofs.Spans.{span-same, span-append, span-snoc, span-length, span-map, literalsAt-kept}
+use Rattle.asp.proofs.Spans.{map-span}
+use Rattle.aspif_lines.proofs.Spans.{span-same, span-append, span-snoc, span-length, literalsAt-kept}
 use Rattle.aspif_lines.proofs.Heads.{head-atoms, head-size, length-map}
 
 pub sum-snoc : {A : Type 0} (f : A → ℕ) (xs : List A) (x : A) → sum f (xs ++ (x ∷ [])) ≡ sum f xs + f x
@@ -37,8 +38,8 @@ abbrev ruleRow : Counts → ℕ → ℕ → ℕ → Row
 ruleRow n c m k = record { a = c; b = n .used; c = m; d = k }
 
 rule-at : (pool : List ℤ) (r : Row) (ch : Bool) → eqb (r .a) 1 ≡ ch → ruleAt pool r ≡ ruleOf ch (literalsAt pool (r .b) (r .c)) (literalsAt pool (r .b + r .c) (r .d))
-rule-at pool r true e = rw (e, span-map named (λ (j : ℕ). getD pool j (pos 0)) (r .b) (r .c))
-rule-at pool r false e = rw (e, span-map named (λ (j : ℕ). getD pool j (pos 0)) (r .b) (r .c))
+rule-at pool r true e = rw (e, map-span named (λ (j : ℕ). getD pool j (pos 0)) (r .b) (r .c))
+rule-at pool r false e = rw (e, map-span named (λ (j : ℕ). getD pool j (pos 0)) (r .b) (r .c))
 
 module _ (pool pool′ : List ℤ) (rules rules′ : List ℕ) (n : Counts) (c m k t : ℕ) (ch : Bool) (l : List ℕ)
     (sound : RulesSound pool rules (n .rules) (n .used)) (kept : Kept (pos 0) (n .used) pool pool′) (pushed : Pushed (n .rules) (ruleRow n c m k) rules rules′)

@@ -1,7 +1,7 @@
 -- Parts of tables, and lists read one by one. Assumes nothing.
 use mathlib.Core.Path.{_≡_, refl, ap, _∙_}
 use mathlib.Core.Bool.{false, _&&_}
-use mathlib.Core.List.{List, [], _∷_, _++_, map}
+use mathlib.Core.List.{List, [], _∷_, _++_}
 use Prim.Native.Nat.{ℕ, zero, suc, _+_, _-_, _*_, _<_, _≤_, max}
 use native.Mathlib.Omega.{arith}
 use lib.Dec.{eqb, ltb}
@@ -42,11 +42,6 @@ pub span-length : {A : Type 0} (f : ℕ → A) (i k : ℕ) → length (span f i 
 unfolding span
 span-length f i zero = refl
 span-length f i (suc k) = ap suc (span-length f (i + 1) k)
-
-pub span-map : {A B : Type 0} (g : A → B) (f : ℕ → A) (i k : ℕ) → map g (span f i k) ≡ span (λ (j : ℕ). g (f j)) i k
-unfolding span
-span-map g f i zero = refl
-span-map g f i (suc k) = rw (span-map g f (i + 1) k)
 
 pub literalsAt-push : (pool : List ℤ) (i k : ℕ) (z : ℤ) → i + k < length pool → literalsAt (set pool (i + k) z) i (k + 1) ≡ literalsAt pool i k ++ (z ∷ [])
 literalsAt-push pool i k z h =
