@@ -11,7 +11,7 @@ use borrow.Author.Tests.{leb-true, eqb-false}
 use Rattle.asp.specs.Sets.{pick, In}
 use Rattle.asp.specs.Program.{choice, Entry, Symbol, Program, All, LiteralIn, HeadIn, RuleIn, ProgramIn}
 use Rattle.asp.specs.Tables.{named}
-use Rattle.aspif_lines.specs.Text.{within, Read, got, bad, bind, next, token, ranged, number, signedToken, signedUpTo, signed, field, natural, atom, literal, member, more, nil, ended, opening, bodyCount, headOf, ruleOf, ruleLine, pair, Minimise, minimiseLine, nameByte, symbolLine, Statement, rule, minimise, symbol, comment, final, ofKind, statement, Reading, add, fits, nothing, led, stepped, judged, lines, same, header, none, opened, headed, pieces, sum, textOf, Answer, accepted, refused}
+use Rattle.aspif_lines.specs.Text.{within, Read, got, bad, bind, next, token, ranged, number, signedToken, signedUpTo, signed, field, natural, atom, literal, member, more, nil, ended, opening, bodyCount, headOf, ruleOf, ruleLine, pair, Minimise, minimiseLine, nameByte, symbolLine, Statement, rule, minimise, symbol, comment, final, ofKind, statement, Reading, add, fits, nothing, led, stepped, judged, lines, same, header, none, opened, headed, pieces, sum, textOf, Answer, accepted, refused, goes, last}
 use Rattle.aspif.specs.Store.{Descending}
 use Rattle.aspif.proofs.Levels.{descending-insert}
 use Rattle.aspif_lines.proofs.Tokens.{within-ends}

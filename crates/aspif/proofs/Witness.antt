@@ -11,7 +11,8 @@ use Rattle.asp.specs.Tables.{span, literalsAt, named, atomsAt, Row, rowAt, head
 use Rattle.asp.proofs.Spans.{span-at}
 use Rattle.aspif_lines.specs.Text.{sum, headSize, bodySize, ruleSize, conditionSize, nameSize, fits, textOf, accepted}
 use Rattle.aspif_lines.specs.Seen.{bytesAt}
-use Rattle.aspif_lines.proofs.Spans.{span-shift, span-map}
+use Rattle.asp.proofs.Spans.{map-span}
+use Rattle.aspif_lines.proofs.Spans.{span-shift}
 use Rattle.aspif_lines.proofs.Heads.{length-map}
 use Rattle.aspif.specs.Store.{Descending, Within, listsOf, Sized, storedProgram, storedText, WellFormed}
 use Rattle.aspif.specs.declared.table.Counts.{Counts}
@@ -138,7 +139,7 @@ module _ {A : Type 0} (P : A → Type 0) (lay : A → List ℤ) (row : ℕ → (
 
     table-back : (at : List ℤ → Row → A) → ((ys : List ℤ) (x : A) (zs : List ℤ) (p : P x) → at (ys ++ (lay x ++ zs)) (row (length ys) x p) ≡ x)
         → (zs : List ℤ) → span (λ (j : ℕ). at (laid lay xs ++ zs) (rowAt table j)) 0 (length xs) ≡ xs
-    table-back at f zs = sym (span-map (at (laid lay xs ++ zs)) (rowAt table) 0 (length xs)) ∙ ap (map (at (laid lay xs ++ zs))) table-rows ∙ rows-back at f [] xs zs h
+    table-back at f zs = sym (map-span (at (laid lay xs ++ zs)) (rowAt table) 0 (length xs)) ∙ ap (map (at (laid lay xs ++ zs))) table-rows ∙ rows-back at f [] xs zs h
 
 -- ---- rules: the head's atoms, then the body
 
@@ -190,7 +191,7 @@ named-pos (h ∷ hs) = ap (λ (t : List ℕ). h ∷ t) (named-pos hs)
 atoms-at : (xs : List ℤ) (hs : List ℕ) (zs : List ℤ) → atomsAt (xs ++ (map pos hs ++ zs)) (length xs) (length hs) ≡ hs
 atoms-at xs hs zs =
     let ls : literalsAt (xs ++ (map pos hs ++ zs)) (length xs) (length hs) ≡ map pos hs = rw (length-map pos hs) at (list-at (pos 0) xs (map pos hs) zs) in
-    sym (span-map named (λ (j : ℕ). getD (xs ++ (map pos hs ++ zs)) j (pos 0)) (length xs) (length hs)) ∙ ap (map named) ls ∙ named-pos hs
+    sym (map-span named (λ (j : ℕ). getD (xs ++ (map pos hs ++ zs)) j (pos 0)) (length xs) (length hs)) ∙ ap (map named) ls ∙ named-pos hs
 
 head-back : (h : Head) (xs zs : List ℤ) (d : ℕ) → headAt (xs ++ (map pos (headList h) ++ zs)) (record { a = choiceMark h; b = length xs; c = length (headList h); d = d }) ≡ h
 head-back constraint xs zs d = rw (atoms-at xs [] zs)
