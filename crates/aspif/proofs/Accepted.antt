@@ -11,7 +11,7 @@ use borrow.Author.Tests.{leb-true, eqb-false}
 use Rattle.asp.specs.Sets.{pick, In}
 use Rattle.asp.specs.Program.{choice, Entry, Symbol, Program, All, LiteralIn, HeadIn, RuleIn, ProgramIn}
 use Rattle.asp.specs.Tables.{named}
-use Rattle.aspif_lines.specs.Text.{within, Read, got, bad, bind, next, token, ranged, number, signedToken, signedUpTo, signed, field, natural, atom, literal, member, more, nil, ended, opening, bodyCount, headOf, ruleOf, ruleLine, pair, Minimise, minimiseLine, nameByte, symbolLine, Statement, rule, minimise, symbol, comment, final, ofKind, statement, Reading, add, fits, nothing, led, stepped, judged, lines, same, header, none, opened, headed, pieces, sum, textOf, Answer, accepted, refused, goes, last}
+use Rattle.aspif_lines.specs.Text.{within, Read, got, bad, bind, next, token, ranged, number, signedToken, signedUpTo, signed, field, natural, atom, literal, memberField, more, nil, ended, opening, bodyCount, headOf, ruleOf, ruleLine, pair, Minimise, minimiseLine, nameByte, symbolLine, Statement, rule, minimise, symbol, comment, final, ofKind, statement, Reading, add, fits, nothing, led, steppedLine, judgedLine, lines, sameBytes, header, emptyProgram, openedReading, headed, pieces, sum, textOf, Answer, accepted, refused, goes, last}
 use Rattle.aspif.specs.Store.{Descending}
 use Rattle.aspif.proofs.Levels.{descending-insert}
 use Rattle.aspif_lines.proofs.Tokens.{within-ends}
@@ -77,7 +77,7 @@ literal-reads l =
     reads-bind (Small 1024) (LiteralIn 1024) (field (signed 1024) l) (λ z r. pick (eqb (natAbs z) 0) (bad 4) (got z r)) (field-reads (Small 1024) (signed 1024) l (signed-reads 1024))
     (λ z r h. reads-pick (LiteralIn 1024) (eqb (natAbs z) 0) (bad 4) (got z r) (λ e. tt) (λ e. (positive-abs (natAbs z) e, h)))
 
-member-reads : (b : Bool) (l : List ℕ) → Reads (Member b) (member b l)
+member-reads : (b : Bool) (l : List ℕ) → Reads (Member b) (memberField b l)
 unfolding atom
 member-reads true l = reads-bind (Range 1 1024) (Member true) (natural 1 1024 l) (λ a r. got (pos a) r) (natural-reads 1 1024 l) (λ a r h. h)
 member-reads false l = literal-reads l
@@ -110,9 +110,9 @@ rule-reads : (l : List ℕ) → Reads (RuleIn 1024) (ruleLine l)
 unfolding ruleLine
 rule-reads l =
     reads-bind Any (RuleIn 1024) (opening l) _ (any (opening l)) (λ o l u.
-    reads-bind (All (Member true)) (RuleIn 1024) (more (member true) (o .count) [] l) _ (more-reads (Member true) (member true) (o .count) [] l (member-reads true) tt) (λ heads l h.
+    reads-bind (All (Member true)) (RuleIn 1024) (more (memberField true) (o .count) [] l) _ (more-reads (Member true) (memberField true) (o .count) [] l (member-reads true) tt) (λ heads l h.
     reads-bind Any (RuleIn 1024) (bodyCount l) _ (any (bodyCount l)) (λ k l u.
-    reads-bind (All (Member false)) (RuleIn 1024) (more (member false) k [] l) _ (more-reads (Member false) (member false) k [] l (member-reads false) tt) (λ body l b.
+    reads-bind (All (Member false)) (RuleIn 1024) (more (memberField false) k [] l) _ (more-reads (Member false) (memberField false) k [] l (member-reads false) tt) (λ body l b.
     ended-reads (RuleIn 1024) (ruleOf (o .choice) heads body) l (head-in (o .choice) (map named heads) (all-named heads h), b)))))
 
 -- an entry of a literal and a weight in their ranges
@@ -145,7 +145,7 @@ symbol-reads l =
     reads-bind Any SymbolIn (natural 1 64 l) _ (any (natural 1 64 l)) (λ m l u.
     reads-bind Any SymbolIn (field (more nameByte m []) l) _ (any (field (more nameByte m []) l)) (λ name l u.
     reads-bind Any SymbolIn (natural 0 1024 l) _ (any (natural 0 1024 l)) (λ k l u.
-    reads-bind (All (Member false)) SymbolIn (more (member false) k [] l) _ (more-reads (Member false) (member false) k [] l (member-reads false) tt) (λ c l h.
+    reads-bind (All (Member false)) SymbolIn (more (memberField false) k [] l) _ (more-reads (Member false) (memberField false) k [] l (member-reads false) tt) (λ c l h.
     ended-reads SymbolIn (record { name = name; condition = c }) l h))))
 
 abbrev StatementIn : Statement → Type 0
@@ -197,7 +197,7 @@ fine-add l (symbol s) p h f =
 fine-add l comment p s f = f
 fine-add l final p s f = f
 
--- ---- texts: what every line keeps is so of all that is accepted, beside the limits, which are judged after each line
+-- ---- texts: what every line keeps is so of all that is accepted, beside the limits, which are judgedLine after each line
 
 module _ (P : Reading → Type 0) (keeps : (l : List ℕ) (st : Statement) (u : List ℕ) (q : Reading) → statement l ≡ got st u → P q → P (add l st q)) where
   abbrev Stands : Reading → Type 0
@@ -211,16 +211,16 @@ module _ (P : Reading → Type 0) (keeps : (l : List ℕ) (st : Statement) (u : 
   answers-pick true x y f g = f refl
   answers-pick false x y f g = g
 
-  goes-keeps : (n : ℕ) (ls : List (List ℕ)) (q : Reading) (go : Reading → Answer) → P q → ((r : Reading) → Stands r → Answers (go r)) → Answers (judged n ls (goes q) go)
+  goes-keeps : (n : ℕ) (ls : List (List ℕ)) (q : Reading) (go : Reading → Answer) → P q → ((r : Reading) → Stands r → Answers (go r)) → Answers (judgedLine n ls (goes q) go)
   goes-keeps n [] q go h f = tt
   goes-keeps n (m ∷ ms) q go h f = answers-pick (fits (q .program)) (go q) (refused 5 n) (λ e. f q (h, e)) tt
 
-  last-keeps : (n : ℕ) (ls : List (List ℕ)) (q : Reading) (go : Reading → Answer) → Stands q → Answers (judged n ls (last q) go)
+  last-keeps : (n : ℕ) (ls : List (List ℕ)) (q : Reading) (go : Reading → Answer) → Stands q → Answers (judgedLine n ls (last q) go)
   last-keeps n [] q go h = tt
   last-keeps n (m ∷ ms) q go h = answers-pick (nothing (m ∷ ms)) (accepted (q .program) (q .text)) (refused 2 (n + 1)) (λ e. h) tt
 
   line-keeps : (n : ℕ) (l : List ℕ) (q : Reading) (ls : List (List ℕ)) (x : Read Statement) (go : Reading → Answer) → statement l ≡ x → Stands q → ((r : Reading) → Stands r → Answers (go r))
-      → Answers (judged n ls (led l q x) go)
+      → Answers (judgedLine n ls (led l q x) go)
   line-keeps n l q ls (bad c) go e h f = tt
   line-keeps n l q ls (got (rule r) u) go e h f = goes-keeps n ls (add l (rule r) q) go (keeps l (rule r) u q e (h .0)) f
   line-keeps n l q ls (got (minimise k es) u) go e h f = goes-keeps n ls (add l (minimise k es) q) go (keeps l (minimise k es) u q e (h .0)) f
@@ -229,20 +229,20 @@ module _ (P : Reading → Type 0) (keeps : (l : List ℕ) (st : Statement) (u : 
   line-keeps n l q ls (got final u) go e h f = last-keeps n ls (add l final q) go (keeps l final u q e (h .0), h .1)
 
   lines-keep : (n : ℕ) (q : Reading) (ls : List (List ℕ)) → Stands q → Answers (lines n q ls)
-  unfolding lines stepped
+  unfolding lines steppedLine
   lines-keep n q [] h = tt
   lines-keep n q (l ∷ ls) h = line-keeps n l q ls (statement l) (λ (r : Reading). lines (n + 1) r ls) refl h (λ r g. lines-keep (n + 1) r ls g)
 
-  headed-keeps : (ls : List (List ℕ)) → Stands opened → Answers (headed ls)
+  headed-keeps : (ls : List (List ℕ)) → Stands openedReading → Answers (headed ls)
   headed-keeps [] h = tt
-  headed-keeps (l ∷ []) h = answers-pick (same l header) (refused 2 1) (refused 1 1) (λ e. tt) tt
-  headed-keeps (l ∷ m ∷ ms) h = answers-pick (same l header) (lines 2 opened (m ∷ ms)) (refused 1 1) (λ e. lines-keep 2 opened (m ∷ ms) h) tt
+  headed-keeps (l ∷ []) h = answers-pick (sameBytes l header) (refused 2 1) (refused 1 1) (λ e. tt) tt
+  headed-keeps (l ∷ m ∷ ms) h = answers-pick (sameBytes l header) (lines 2 openedReading (m ∷ ms)) (refused 1 1) (λ e. lines-keep 2 openedReading (m ∷ ms) h) tt
 
-  text-keeps : (s : List ℕ) → P opened → Answers (textOf s)
+  text-keeps : (s : List ℕ) → P openedReading → Answers (textOf s)
   unfolding textOf fits sum
   text-keeps s h = answers-pick (ltb 65536 (length s)) (refused 5 0) (headed (pieces s)) (λ e. tt) (headed-keeps (pieces s) (h, refl))
 
-  pub accepted-keeps : (s : List ℕ) (p : Program) (t : List ℕ) → P opened → textOf s ≡ accepted p t → P (record { program = p; text = t }) × (fits p ≡ true)
+  pub accepted-keeps : (s : List ℕ) (p : Program) (t : List ℕ) → P openedReading → textOf s ≡ accepted p t → P (record { program = p; text = t }) × (fits p ≡ true)
   accepted-keeps s p t h e = rw e at (text-keeps s h)
 
 -- ---- the law
@@ -256,6 +256,6 @@ fine-line l st u q e = fine-add l st q (rw e at (statement-reads l))
 
 pub accepted-good : (s : List ℕ) (p : Program) (t : List ℕ) → textOf s ≡ accepted p t → Good p
 accepted-good s p t e =
-    let none-fine : Fine none = record { atoms = record { rules = tt; entries = tt; symbols = tt }; weights = tt; down = tt } in
+    let none-fine : Fine emptyProgram = record { atoms = record { rules = tt; entries = tt; symbols = tt }; weights = tt; down = tt } in
     let h = accepted-keeps (λ (q : Reading). Fine (q .program)) fine-line s p t none-fine e in
     record { fine = h .0; fit = h .1 }

@@ -11,12 +11,12 @@ use borrow.Author.Tests.{ne-eqb, eqb-true, eqb-false}
 use Rattle.asp.specs.Sets.{pick}
 use Rattle.asp.specs.Program.{Rule, Entry, Symbol, highest, ruleAtoms, atoms}
 use Rattle.asp.specs.Tables.{literalsAt, rowAt, symbolAt, symbolsOf, programOf}
-use Rattle.aspif_lines.specs.Text.{Read, got, bad, bind, nil, number, ruleLine, minimiseLine, symbolLine, Minimise, rule, minimise, symbol, comment, final, ofKind, statement, line, led, stepped, stop}
+use Rattle.aspif_lines.specs.Text.{Read, got, bad, bind, nil, number, ruleLine, minimiseLine, symbolLine, Minimise, rule, minimise, symbol, comment, final, ofKind, statement, line, led, steppedLine, stop}
 use Rattle.aspif_lines.specs.Seen.{bytesAt, Kept}
-use Rattle.aspif.specs.Store.{SymbolsSound, RuleAdded, AddedRule, MinimiseAdded, AddedMinimise, SymbolAdded, AddedSymbol, otherTurn, finalCounts, Lists, lists, Sized, tables, readingOf, Sound, seenTurn, TurnAfter}
+use Rattle.aspif.specs.Store.{SymbolsSound, RuleAdded, AddedRule, MinimiseAdded, AddedMinimise, SymbolAdded, AddedSymbol, otherTurn, finalCounts, Lists, lists, Sized, tables, readingOf, SoundLists, seenTurn, TurnAfter}
 use Rattle.aspif.specs.declared.table.Counts.{Counts}
-use Rattle.aspif.specs.declared.add.Turn.{Turn}
-use Rattle.aspif.specs.declared.add.Turn.the-variants as turn
+use Rattle.aspif.specs.declared.add.LineTurn.{LineTurn}
+use Rattle.aspif.specs.declared.add.LineTurn.the-variants as turn
 use Rattle.aspif_lines.proofs.Spans.{span-same, highest-snoc}
 use Rattle.aspif.proofs.Levels.{descending-insert}
 
@@ -42,7 +42,7 @@ bytes-kept t t′ n k = span-same (λ (j : ℕ). getD t′ j 0) (λ (j : ℕ). g
 
 -- ---- the line s was put after the text, and its kind read
 
-module _ (s : List ℕ) (t : Lists) (n : Counts) (text′ : List ℕ) (end : ℕ) (sound : Sound t n) (where-end : end ≡ n .text + length s + 1)
+module _ (s : List ℕ) (t : Lists) (n : Counts) (text′ : List ℕ) (end : ℕ) (sound : SoundLists t n) (where-end : end ≡ n .text + length s + 1)
     (appended : bytesAt text′ 0 end ≡ bytesAt (t .text) 0 (n .text) ++ line s) (kept : Kept 0 (n .text) (t .text) text′) where
   -- the tables with the new text
   abbrev put : Lists
@@ -60,18 +60,18 @@ module _ (s : List ℕ) (t : Lists) (n : Counts) (text′ : List ℕ) (end : ℕ
   sized : Sized put
   sized = record { text = kept .long ∙ sound .sized .text; pool = sound .sized .pool; rules = sound .sized .rules; priorities = sound .sized .priorities; literals = sound .sized .literals; weights = sound .sized .weights; levels = sound .sized .levels; conditions = sound .sized .conditions; symbols = sound .sized .symbols }
 
-  pub refused-line : (c : ℕ) → number 0 10 s ≡ bad c → stop c ≡ stepped s (readingOf t n)
-  unfolding stepped statement
+  pub refused-line : (c : ℕ) → number 0 10 s ≡ bad c → stop c ≡ steppedLine s (readingOf t n)
+  unfolding steppedLine statement
   refused-line c e = rw e
 
   module _ (kind : ℕ) (r : List ℕ) (num : number 0 10 s ≡ got kind r) where
     -- what a kind's line leads to
-    kind-led : {x : Read _} → ofKind kind r ≡ x → stepped s (readingOf t n) ≡ led s (readingOf t n) x
-    unfolding stepped statement
+    kind-led : {x : Read _} → ofKind kind r ≡ x → steppedLine s (readingOf t n) ≡ led s (readingOf t n) x
+    unfolding steppedLine statement
     kind-led e = rw (num, e)
 
-    abbrev Leads : Lists → Turn → Type 0
-    Leads u a = (seenTurn u a ≡ stepped s (readingOf t n)) × TurnAfter u (n .text + length s + 1) a
+    abbrev Leads : Lists → LineTurn → Type 0
+    Leads u a = (seenTurn u a ≡ steppedLine s (readingOf t n)) × TurnAfter u (n .text + length s + 1) a
 
     -- ---- rules
     module _ (pool′ : List ℤ) (rules′ : List ℕ) (one : kind ≡ 1) where
@@ -98,7 +98,7 @@ module _ (s : List ℕ) (t : Lists) (n : Counts) (text′ : List ℕ) (end : ℕ
             ),
           )
 
-      pub rule-leads : (a : Turn) → AddedRule (t .pool) (t .rules) pool′ rules′ n end r a → Leads ruled a
+      pub rule-leads : (a : LineTurn) → AddedRule (t .pool) (t .rules) pool′ rules′ n end r a → Leads ruled a
       rule-leads (turn.Refused c) e = (sym (kind-led (rule-kind (bad c) e)), tt)
       rule-leads (turn.Last m) e = absurd e
       rule-leads (turn.Goes m) e = rule-goes m e
@@ -128,7 +128,7 @@ module _ (s : List ℕ) (t : Lists) (n : Counts) (text′ : List ℕ) (end : ℕ
             ),
           )
 
-      pub minimise-leads : (a : Turn) → AddedMinimise (t .priorities) (t .literals) (t .weights) (t .levels) ps′ ls′ ws′ levels′ n end r a → Leads minimised a
+      pub minimise-leads : (a : LineTurn) → AddedMinimise (t .priorities) (t .literals) (t .weights) (t .levels) ps′ ls′ ws′ levels′ n end r a → Leads minimised a
       minimise-leads (turn.Refused c) e = (sym (kind-led (minimise-kind (bad c) e)), tt)
       minimise-leads (turn.Last m) e = absurd e
       minimise-leads (turn.Goes m) e = minimise-goes m e
@@ -159,17 +159,17 @@ module _ (s : List ℕ) (t : Lists) (n : Counts) (text′ : List ℕ) (end : ℕ
             ),
           )
 
-      pub symbol-leads : (a : Turn) → AddedSymbol text′ (t .conditions) (t .symbols) conditions′ symbols′ n end r a → Leads symbolled a
+      pub symbol-leads : (a : LineTurn) → AddedSymbol text′ (t .conditions) (t .symbols) conditions′ symbols′ n end r a → Leads symbolled a
       symbol-leads (turn.Refused c) e = (sym (kind-led (symbol-kind (bad c) e)), tt)
       symbol-leads (turn.Last m) e = absurd e
       symbol-leads (turn.Goes m) e = symbol-goes m e
 
     -- ---- the other kinds
     module _ (no1 : kind ≡ 1 → ⊥) (no2 : kind ≡ 2 → ⊥) (no4 : kind ≡ 4 → ⊥) where
-      put-sound : Sound put (finalCounts n end)
+      put-sound : SoundLists put (finalCounts n end)
       put-sound = record { sized = sized; rules = sound .rules; symbols = stay; levels = sound .levels; atoms = rw same (sound .atoms) }
 
-      kept-sound : Sound put n
+      kept-sound : SoundLists put n
       kept-sound = record { sized = sized; rules = sound .rules; symbols = symbol-ready; levels = sound .levels; atoms = rw same (sound .atoms) }
 
       final-leads : (b : Bool) → nil r ≡ b → kind ≡ 0 → Leads put (pick b (turn.Last (finalCounts n end)) (turn.Refused 2))
@@ -185,7 +185,7 @@ module _ (s : List ℕ) (t : Lists) (n : Counts) (text′ : List ℕ) (end : ℕ
       unfolding ofKind
       unread-leads f g = (sym (kind-led {x = bad 3} (rw (ne-eqb kind 0 f, ne-eqb kind 1 no1, ne-eqb kind 2 no2, ne-eqb kind 4 no4, ne-eqb kind 10 g))), tt)
 
-      pub other-leads : (a : Turn) → a ≡ otherTurn kind r n end → Leads put a
+      pub other-leads : (a : LineTurn) → a ≡ otherTurn kind r n end → Leads put a
       other-leads a e = rw e (go (eqb kind 0) (eqb kind 10) refl refl)
         where
           go : (x y : Bool) → eqb kind 0 ≡ x → eqb kind 10 ≡ y → Leads put (pick x (pick (nil r) (turn.Last (finalCounts n end)) (turn.Refused 2)) (pick y (turn.Goes n) (turn.Refused 3)))

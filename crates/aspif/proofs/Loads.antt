@@ -9,12 +9,12 @@ use Rattle.asp.specs.Sets.{In}
 use Rattle.asp.specs.Program.{Literal, Body, normal, Head, constraint, plain, choice, Rule, Entry, Symbol, Program, highest, bodyAtoms, headAtoms, ruleAtoms, atoms, All, LiteralIn, BodyIn, HeadIn, RuleIn, ProgramIn}
 use Rattle.asp.specs.Tables.{span, rowAt, RowIn}
 use Rattle.aspif_lines.specs.Text.{textOf, accepted}
-use Rattle.aspif.specs.Store.{Sound, Within, seenVerdict, VerdictAfter, countsOf, answerFor, answerOf, listsOf, storedProgram, storedText, WellFormed, StoredAfter}
+use Rattle.aspif.specs.Store.{SoundLists, Within, seenVerdict, VerdictAfter, countsOf, answerFor, answerOf, listsOf, storedProgram, storedText, WellFormed, StoredAfter}
 use Rattle.aspif.specs.declared.text.Stored.{Stored}
 use Rattle.aspif.specs.declared.text.Loading.{Loading}
 use Rattle.aspif.specs.declared.text.Loading.the-variants.{Accepted}
-use Rattle.aspif.specs.declared.text.Verdict.{Verdict}
-use Rattle.aspif.specs.declared.text.Verdict.the-variants as verdict
+use Rattle.aspif.specs.declared.text.TextVerdict.{TextVerdict}
+use Rattle.aspif.specs.declared.text.TextVerdict.the-variants as verdict
 use Rattle.aspif_lines.proofs.Spans.{span-length}
 use Rattle.aspif.proofs.Onwards.{fits-of, limits-within}
 use Rattle.aspif.proofs.Accepted.{Good, accepted-good}
@@ -88,7 +88,7 @@ program-in p i =
 
 -- ---- what is stored
 
-module _ (p : Stored) (s : List ℕ) (sound : Sound (listsOf p) (p .counts)) (e : textOf s ≡ accepted (storedProgram p) (storedText p)) where
+module _ (p : Stored) (s : List ℕ) (sound : SoundLists (listsOf p) (p .counts)) (e : textOf s ≡ accepted (storedProgram p) (storedText p)) where
   good : Good (storedProgram p)
   good = accepted-good s (storedProgram p) (storedText p) e
 
@@ -116,12 +116,12 @@ module _ (p : Stored) (s : List ℕ) (sound : Sound (listsOf p) (p .counts)) (e 
         symbols = sound .symbols .inside;
       }
 
-pub load-answer : (p : Stored) (v : Verdict) (a : Loading) (s : List ℕ) → p .counts ≡ countsOf v → a ≡ answerFor v → seenVerdict (listsOf p) v ≡ textOf s → VerdictAfter (listsOf p) v
+pub load-answer : (p : Stored) (v : TextVerdict) (a : Loading) (s : List ℕ) → p .counts ≡ countsOf v → a ≡ answerFor v → seenVerdict (listsOf p) v ≡ textOf s → VerdictAfter (listsOf p) v
     → (answerOf p a ≡ textOf s) × StoredAfter p a
 unfolding span
 load-answer p (verdict.Taken n) a s c e q h =
     let x : answerOf p Accepted ≡ textOf s = rw c q in
-    let y : Sound (listsOf p) (p .counts) = rw c h in
+    let y : SoundLists (listsOf p) (p .counts) = rw c h in
     rw e (x, well-formed p s y (sym x))
 load-answer p (verdict.Refused k m) a s c e q h = rw (e, c) (q, (refl, refl))
 

@@ -9,7 +9,7 @@ use lib.ListN.{length, take, drop, take-append-drop}
 use Rattle.asp.specs.Sets.{pick}
 use Rattle.asp.specs.Program.{Symbol, Program, All}
 use Rattle.asp.proofs.Spans.{all-map}
-use Rattle.aspif_lines.specs.Text.{within, Read, got, bad, bind, next, digits, decimal, formed, token, number, field, natural, member, more, nil, ended, ruleLine, minimiseLine, nameByte, symbolLine, Statement, rule, minimise, symbol, comment, final, ofKind, statement, Reading, add, line, textOf, accepted}
+use Rattle.aspif_lines.specs.Text.{within, Read, got, bad, bind, next, digits, decimal, formed, token, number, field, natural, memberField, more, nil, ended, ruleLine, minimiseLine, nameByte, symbolLine, Statement, rule, minimise, symbol, comment, final, ofKind, statement, Reading, add, line, textOf, accepted}
 use Rattle.aspif_lines.proofs.Spans.{append-nil}
 use Rattle.aspif.proofs.Accepted.{all-append, accepted-keeps}
 
@@ -104,7 +104,7 @@ symbol-part l {s} {r} e =
     let (m, l1, e1, f1) = bind-got (natural 1 64 l) _ e in
     let (name, l2, e2, f2) = bind-got (field (more nameByte m []) l1) _ f1 in
     let (k, l3, e3, f3) = bind-got (natural 0 1024 l2) _ f2 in
-    let (c, l4, e4, f4) = bind-got (more (member false) k [] l3) _ f3 in
+    let (c, l4, e4, f4) = bind-got (more (memberField false) k [] l3) _ f3 in
     let h = pick-got (nil l4) (got (record { name = name; condition = c }) []) 2 f4 in
     let z : record { name = name; condition = c } ≡ s = cc in
     let p : Part name l1 = part-part (name-part m (drop 1 l1) (field-got (more nameByte m []) l1 e2)) (part-drop 1 l1) in

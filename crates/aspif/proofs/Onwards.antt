@@ -14,12 +14,12 @@ use lib.Seq.{drop-cons}
 use borrow.Author.Tests.{eqb-true, eqb-false, leb-true}
 use Rattle.asp.specs.Sets.{pick}
 use Rattle.asp.specs.Tables.{ruleAt, symbolAt, entryAt, rowAt}
-use Rattle.aspif_lines.specs.Text.{pieces, longer, nothing, judged, lines, stepped, fits, limits, Reading, stop, last, goes, Answer, accepted, refused}
+use Rattle.aspif_lines.specs.Text.{pieces, longer, nothing, judgedLine, lines, steppedLine, fits, limits, Reading, stop, last, goes, Answer, accepted, refused}
 use Rattle.aspif_lines.specs.Seen.{follow}
-use Rattle.aspif.specs.Store.{Within, Lists, readingOf, Sound, seenTurn, TurnAfter, onwardOf, seenOnward, OnwardAfter}
+use Rattle.aspif.specs.Store.{Within, Lists, readingOf, SoundLists, seenTurn, TurnAfter, onwardOf, seenOnward, OnwardAfter}
 use Rattle.aspif.specs.declared.table.Counts.{Counts}
-use Rattle.aspif.specs.declared.add.Turn.{Turn}
-use Rattle.aspif.specs.declared.add.Turn.the-variants as turn
+use Rattle.aspif.specs.declared.add.LineTurn.{LineTurn}
+use Rattle.aspif.specs.declared.add.LineTurn.the-variants as turn
 use Rattle.aspif.specs.declared.text.Onward.{Onward}
 use Rattle.aspif.specs.declared.text.Onward.the-variants as onward
 use Rattle.aspif_lines.proofs.Spans.{span-length}
@@ -44,11 +44,11 @@ nothing-more b s = go (eqb b 10) (pieces s) (pieces-some s)
     go false (x ∷ xs) h = refl
 
 -- there is a piece after a byte 10
-pub goes-on : (m : ℕ) (q : Reading) (go : Reading → Answer) (ps : List (List ℕ)) → (ps ≡ [] → ⊥) → judged m ps (goes q) go ≡ pick (fits (q .program)) (go q) (refused 5 m)
+pub goes-on : (m : ℕ) (q : Reading) (go : Reading → Answer) (ps : List (List ℕ)) → (ps ≡ [] → ⊥) → judgedLine m ps (goes q) go ≡ pick (fits (q .program)) (go q) (refused 5 m)
 goes-on m q go [] h = absurd (h refl)
 goes-on m q go (x ∷ xs) h = refl
 
-pub last-on : (m : ℕ) (q : Reading) (go : Reading → Answer) (ps : List (List ℕ)) → (ps ≡ [] → ⊥) → judged m ps (last q) go ≡ pick (nothing ps) (accepted (q .program) (q .text)) (refused 2 (m + 1))
+pub last-on : (m : ℕ) (q : Reading) (go : Reading → Answer) (ps : List (List ℕ)) → (ps ≡ [] → ⊥) → judgedLine m ps (last q) go ≡ pick (nothing ps) (accepted (q .program) (q .text)) (refused 2 (m + 1))
 last-on m q go [] h = absurd (h refl)
 last-on m q go (x ∷ xs) h = refl
 
@@ -72,7 +72,7 @@ limits-within n e =
       names = leb-true (n .names) 16384 (names .1);
     }
 
-pub fits-of : (t : Lists) (n : Counts) → Sound t n → limits (n .rules) (n .used) (n .entries) (n .levels) (n .symbols) (n .conditions) (n .names) ≡ fits (readingOf t n .program)
+pub fits-of : (t : Lists) (n : Counts) → SoundLists t n → limits (n .rules) (n .used) (n .entries) (n .levels) (n .symbols) (n .conditions) (n .names) ≡ fits (readingOf t n .program)
 unfolding fits
 fits-of t n h =
     rw (
@@ -100,34 +100,34 @@ module _ (s : List ℕ) (at end : ℕ) (l : List ℕ) (p : Reading) (cut : piece
   cut-off h = rw (drop-of-length-le s {i = end} (omega arith))
 
   module _ (m : ℕ) where
-    on-stop : (c : ℕ) → stop c ≡ stepped l p → refused c (m + 0) ≡ lines m p (pieces (drop at s))
+    on-stop : (c : ℕ) → stop c ≡ steppedLine l p → refused c (m + 0) ≡ lines m p (pieces (drop at s))
     unfolding lines
     on-stop c e = let z : m + 0 ≡ m = omega arith in rw (z, cut, ← e)
 
-    on-last-cut : (q : Reading) → end ≡ length s → last q ≡ stepped l p → refused 2 (m + 0) ≡ lines m p (pieces (drop at s))
+    on-last-cut : (q : Reading) → end ≡ length s → last q ≡ steppedLine l p → refused 2 (m + 0) ≡ lines m p (pieces (drop at s))
     unfolding lines
     on-last-cut q h e = let z : m + 0 ≡ m = omega arith in rw (z, cut, ← e, cut-off h)
 
-    on-goes-cut : (q : Reading) → end ≡ length s → goes q ≡ stepped l p → refused 2 (m + 0) ≡ lines m p (pieces (drop at s))
+    on-goes-cut : (q : Reading) → end ≡ length s → goes q ≡ steppedLine l p → refused 2 (m + 0) ≡ lines m p (pieces (drop at s))
     unfolding lines
     on-goes-cut q h e = let z : m + 0 ≡ m = omega arith in rw (z, cut, ← e, cut-off h)
 
-    on-accept : (q : Reading) → end + 1 ≡ length s → last q ≡ stepped l p → accepted (q .program) (q .text) ≡ lines m p (pieces (drop at s))
+    on-accept : (q : Reading) → end + 1 ≡ length s → last q ≡ steppedLine l p → accepted (q .program) (q .text) ≡ lines m p (pieces (drop at s))
     unfolding lines pieces
     on-accept q h e = rw (cut, ← e, drop-cons s end 0 (omega arith), drop-of-length-le s {i = suc end} (omega arith))
 
-    on-after : (q : Reading) → end + 1 < length s → last q ≡ stepped l p → refused 2 (m + 1) ≡ lines m p (pieces (drop at s))
+    on-after : (q : Reading) → end + 1 < length s → last q ≡ steppedLine l p → refused 2 (m + 1) ≡ lines m p (pieces (drop at s))
     unfolding lines
     on-after q h e =
         let ps : List (List ℕ) = pieces (drop (end + 1) s) in
         let none : nothing ps ≡ false = rw (drop-cons s (end + 1) 0 h) (nothing-more (getD s (end + 1) 0) (drop (suc (end + 1)) s)) in
         rw (cut, ← e, after (omega arith), last-on m q (λ (w : Reading). lines (m + 1) w ps) ps (pieces-some (drop (end + 1) s)), none)
 
-    on-next : (q : Reading) → end < length s → goes q ≡ stepped l p → fits (q .program) ≡ true → lines (m + 1) q (pieces (drop (end + 1) s)) ≡ lines m p (pieces (drop at s))
+    on-next : (q : Reading) → end < length s → goes q ≡ steppedLine l p → fits (q .program) ≡ true → lines (m + 1) q (pieces (drop (end + 1) s)) ≡ lines m p (pieces (drop at s))
     unfolding lines
     on-next q h e f = let ps : List (List ℕ) = pieces (drop (end + 1) s) in rw (cut, ← e, after h, goes-on m q (λ (w : Reading). lines (m + 1) w ps) ps (pieces-some (drop (end + 1) s)), f)
 
-    on-full : (q : Reading) → end < length s → goes q ≡ stepped l p → fits (q .program) ≡ false → refused 5 (m + 0) ≡ lines m p (pieces (drop at s))
+    on-full : (q : Reading) → end < length s → goes q ≡ steppedLine l p → fits (q .program) ≡ false → refused 5 (m + 0) ≡ lines m p (pieces (drop at s))
     unfolding lines
     on-full q h e f =
         let z : m + 0 ≡ m = omega arith in
@@ -137,7 +137,7 @@ module _ (s : List ℕ) (at end : ℕ) (l : List ℕ) (p : Reading) (cut : piece
   abbrev Onwards : Lists → Onward → Type 0
   Onwards u o = ((m : ℕ) → seenOnward s u m o ≡ lines m p (pieces (drop at s))) × OnwardAfter s u at o
 
-  pub onward-leads : (u : Lists) (a : Turn) (limit : ℕ) → at ≤ end → limit ≤ end + 1 → seenTurn u a ≡ stepped l p → TurnAfter u limit a → Onwards u (onwardOf a end (length s))
+  pub onward-leads : (u : Lists) (a : LineTurn) (limit : ℕ) → at ≤ end → limit ≤ end + 1 → seenTurn u a ≡ steppedLine l p → TurnAfter u limit a → Onwards u (onwardOf a end (length s))
   onward-leads u (turn.Refused c) limit o b e t = (λ m. on-stop m c e, omega arith)
   onward-leads u (turn.Last n) limit o b e t = go (eqb end (length s)) (eqb (end + 1) (length s)) refl refl
     where
@@ -164,7 +164,7 @@ short k xs = omega (arith, length-take k xs)
 -- the lines up to `at` are read, and line m is next
 pub record ReadUpTo (s : List ℕ) (t₀ : Lists) (n₀ : Counts) (from : ℕ) (t : Lists) (n : Counts) (at m : ℕ) : Type 0 where
   pub left : lines m (readingOf t n) (pieces (drop at s)) ≡ lines 2 (readingOf t₀ n₀) (pieces (drop from s))
-  pub sound : Sound t n
+  pub sound : SoundLists t n
   pub within : Within n
   pub text : n .text ≤ at
   pub line : m ≤ at

@@ -1,4 +1,4 @@
--- Reading what was written gives the same program and the same text. Assumes nothing.
+-- Reading what was written gives the sameBytes program and the sameBytes text. Assumes nothing.
 use mathlib.Core.Path.{_≡_, refl, sym, ap, _∙_}
 use mathlib.Core.Bool.{Bool, true, false}
 use mathlib.Core.List.{List, [], _∷_, _++_, append-assoc}
@@ -9,7 +9,7 @@ use lib.ListN.{length, length-append}
 use borrow.Author.Tests.{ltb-false, le-ltb}
 use Rattle.asp.specs.Sets.{pick}
 use Rattle.asp.specs.Program.{Program, All}
-use Rattle.aspif_lines.specs.Text.{Read, got, bad, Statement, rule, minimise, symbol, comment, final, statement, Reading, add, line, fits, pieces, longer, nothing, Step, last, goes, led, stepped, judged, lines, same, header, opened, headed, textOf, Answer, accepted, refused}
+use Rattle.aspif_lines.specs.Text.{Read, got, bad, Statement, rule, minimise, symbol, comment, final, statement, Reading, add, line, fits, pieces, longer, nothing, Step, last, goes, led, steppedLine, judgedLine, lines, sameBytes, header, openedReading, headed, textOf, Answer, accepted, refused}
 use Rattle.aspif.proofs.Onwards.{pieces-some, goes-on}
 use Rattle.aspif.proofs.Texts.{same-true, same-refl}
 use Rattle.aspif_lines.proofs.Spans.{append-nil}
@@ -70,7 +70,7 @@ pick-accepted true x c n p t e = (refl, e)
 pick-accepted false x c n p t e = absurd-refused e
 
 -- a line that is kept, before those that are
-keep : (l : List ℕ) (q r : Reading) (p : Program) (t : List ℕ) → All (λ (b : ℕ). eqb b 10 ≡ false) l → stepped l q ≡ goes r → r .text ≡ q .text ++ line l → fits (r .program) ≡ true → Kept r p t → Kept q p t
+keep : (l : List ℕ) (q r : Reading) (p : Program) (t : List ℕ) → All (λ (b : ℕ). eqb b 10 ≡ false) l → steppedLine l q ≡ goes r → r .text ≡ q .text ++ line l → fits (r .program) ≡ true → Kept r p t → Kept q p t
 unfolding lines joined
 keep l q r p t c e x f k =
     record {
@@ -84,16 +84,16 @@ module _ (n : ℕ) (l : List ℕ) (q : Reading) (p : Program) (t : List ℕ) (c 
   unfoldable leads : Read Statement → Step
   leads x = led l q x
 
-  kept-goes : (r : Reading) (ls : List (List ℕ)) → stepped l q ≡ goes r → r .text ≡ q .text ++ line l → ((w : Reading) → lines (n + 1) w ls ≡ accepted p t → Kept w p t)
-      → judged n ls (goes r) (λ (w : Reading). lines (n + 1) w ls) ≡ accepted p t → Kept q p t
+  kept-goes : (r : Reading) (ls : List (List ℕ)) → steppedLine l q ≡ goes r → r .text ≡ q .text ++ line l → ((w : Reading) → lines (n + 1) w ls ≡ accepted p t → Kept w p t)
+      → judgedLine n ls (goes r) (λ (w : Reading). lines (n + 1) w ls) ≡ accepted p t → Kept q p t
   kept-goes r [] s x f e = absurd-refused e
   kept-goes r (m ∷ ms) s x f e = let h = pick-accepted (fits (r .program)) (lines (n + 1) r (m ∷ ms)) 5 n p t e in keep l q r p t c s x (h .0) (f r (h .1))
 
-  kept-comment : (ls : List (List ℕ)) → ((w : Reading) → lines (n + 1) w ls ≡ accepted p t → Kept w p t) → judged n ls (goes q) (λ (w : Reading). lines (n + 1) w ls) ≡ accepted p t → Kept q p t
+  kept-comment : (ls : List (List ℕ)) → ((w : Reading) → lines (n + 1) w ls ≡ accepted p t → Kept w p t) → judgedLine n ls (goes q) (λ (w : Reading). lines (n + 1) w ls) ≡ accepted p t → Kept q p t
   kept-comment [] f e = absurd-refused e
   kept-comment (m ∷ ms) f e = f q (pick-accepted (fits (q .program)) (lines (n + 1) q (m ∷ ms)) 5 n p t e .1)
 
-  kept-final : (ls : List (List ℕ)) (go : Reading → Answer) → stepped l q ≡ last (add l final q) → judged n ls (last (add l final q)) go ≡ accepted p t → Kept q p t
+  kept-final : (ls : List (List ℕ)) (go : Reading → Answer) → steppedLine l q ≡ last (add l final q) → judgedLine n ls (last (add l final q)) go ≡ accepted p t → Kept q p t
   unfolding lines joined
   kept-final [] go s e = absurd-refused e
   kept-final (m ∷ ms) go s e =
@@ -102,8 +102,8 @@ module _ (n : ℕ) (l : List ℕ) (q : Reading) (p : Program) (t : List ℕ) (c 
       record { kept = l ∷ []; clean = (record { clean = c }, tt); text = rw (append-nil (line l)) (sym x); again = λ m. rw s h }
 
   kept-line : (x : Read Statement) → statement l ≡ x → (ls : List (List ℕ)) → ((w : Reading) → lines (n + 1) w ls ≡ accepted p t → Kept w p t)
-      → judged n ls (led l q x) (λ (w : Reading). lines (n + 1) w ls) ≡ accepted p t → Kept q p t
-  unfolding stepped
+      → judgedLine n ls (led l q x) (λ (w : Reading). lines (n + 1) w ls) ≡ accepted p t → Kept q p t
+  unfolding steppedLine
   kept-line (bad k) s ls f e = absurd-refused e
   kept-line (got (rule r) u) s ls f e = kept-goes (add l (rule r) q) ls (rw s) refl f e
   kept-line (got (minimise k es) u) s ls f e = kept-goes (add l (minimise k es) q) ls (rw s) refl f e
@@ -112,7 +112,7 @@ module _ (n : ℕ) (l : List ℕ) (q : Reading) (p : Program) (t : List ℕ) (c 
   kept-line (got final u) s ls f e = kept-final ls (λ (w : Reading). lines (n + 1) w ls) (rw s) e
 
 kept-lines : (n : ℕ) (q : Reading) (ls : List (List ℕ)) (p : Program) (t : List ℕ) → All Clean ls → lines n q ls ≡ accepted p t → Kept q p t
-unfolding lines stepped
+unfolding lines steppedLine
 kept-lines n q [] p t c e = absurd-refused e
 kept-lines n q (l ∷ ls) p t c e = kept-line n l q p t (c .0 .clean) (statement l) refl ls (λ w h. kept-lines (n + 1) w ls p t (c .1) h) e
 
@@ -153,7 +153,7 @@ line-length t l = omega (arith, length-append t (line l), length-append l (10 �
 
 module _ (n : ℕ) (l : List ℕ) (q : Reading) (go : Reading → Answer) where
   abbrev Within : List (List ℕ) → Step → Type 0
-  Within ls st = ((r : Reading) → Bounded (length (r .text) + sizes ls) (go r)) → Bounded (length (q .text) + (length l + 1 + sizes ls)) (judged n ls st go)
+  Within ls st = ((r : Reading) → Bounded (length (r .text) + sizes ls) (go r)) → Bounded (length (q .text) + (length l + 1 + sizes ls)) (judgedLine n ls st go)
 
   goes-bounded : (ls : List (List ℕ)) (r : Reading) → length (r .text) ≤ length (q .text) + (length l + 1) → Within ls (goes r)
   goes-bounded [] r h f = tt
@@ -176,7 +176,7 @@ module _ (n : ℕ) (l : List ℕ) (q : Reading) (go : Reading → Answer) where
   line-bounded ls (got final u) f = final-bounded ls f
 
 lines-bounded : (n : ℕ) (q : Reading) (ls : List (List ℕ)) → Bounded (length (q .text) + sizes ls) (lines n q ls)
-unfolding lines stepped sizes
+unfolding lines steppedLine sizes
 lines-bounded n q [] = tt
 lines-bounded n q (l ∷ ls) = line-bounded n l q (λ (r : Reading). lines (n + 1) r ls) ls (statement l) (λ r. lines-bounded (n + 1) r ls)
 
@@ -187,7 +187,7 @@ record Opens (s : List ℕ) (p : Program) (t : List ℕ) : Type 0 where
   pub rest : List (List ℕ)
   pub fit : length s ≤ 65536
   pub split : pieces s ≡ header ∷ rest
-  pub lead : lines 2 opened rest ≡ accepted p t
+  pub lead : lines 2 openedReading rest ≡ accepted p t
 
 opens : (s : List ℕ) (p : Program) (t : List ℕ) → textOf s ≡ accepted p t → Opens s p t
 unfolding textOf
@@ -195,9 +195,9 @@ opens s p t e = go (ltb 65536 (length s)) refl e
   where
     parts : (ls : List (List ℕ)) → pieces s ≡ ls → length s ≤ 65536 → headed ls ≡ accepted p t → Opens s p t
     parts [] x f h = absurd-refused h
-    parts (l ∷ []) x f h = absurd-refused (pick-accepted (same l header) (refused 2 1) 1 1 p t h .1)
+    parts (l ∷ []) x f h = absurd-refused (pick-accepted (sameBytes l header) (refused 2 1) 1 1 p t h .1)
     parts (l ∷ m ∷ ms) x f h =
-        let k = pick-accepted (same l header) (lines 2 opened (m ∷ ms)) 1 1 p t h in
+        let k = pick-accepted (sameBytes l header) (lines 2 openedReading (m ∷ ms)) 1 1 p t h in
         record { rest = m ∷ ms; fit = f; split = x ∙ rw (same-true l header (k .0)); lead = k .1 }
 
     go : (b : Bool) → ltb 65536 (length s) ≡ b → pick b (refused 5 0) (headed (pieces s)) ≡ accepted p t → Opens s p t
@@ -209,7 +209,7 @@ pub stored-short : (s : List ℕ) (p : Program) (t : List ℕ) → textOf s ≡ 
 unfolding sizes
 stored-short s p t e =
     let o = opens s p t e in
-    let b = rw (o .lead) at (lines-bounded 2 opened (o .rest)) in
+    let b = rw (o .lead) at (lines-bounded 2 openedReading (o .rest)) in
     omega (arith, b, sizes-pieces s, ap sizes (o .split))
 
 pub accepted-short : (s : List ℕ) (p : Program) (t : List ℕ) → textOf s ≡ accepted p t → length s ≤ 65536
@@ -222,17 +222,17 @@ pieces-nothing : pieces [] ≡ [] ∷ []
 unfolding pieces
 pieces-nothing = refl
 
-headed-again : (ls : List (List ℕ)) → (ls ≡ [] → ⊥) → headed (header ∷ ls) ≡ lines 2 opened ls
+headed-again : (ls : List (List ℕ)) → (ls ≡ [] → ⊥) → headed (header ∷ ls) ≡ lines 2 openedReading ls
 headed-again [] h = absurd (h refl)
 headed-again (l ∷ ls) h = rw (same-refl header)
 
--- THE round trip: what an accepted text is stored as is accepted with the same program, and stored as it is
+-- THE round trip: what an accepted text is stored as is accepted with the sameBytes program, and stored as it is
 pub round-trip : (s : List ℕ) (p : Program) (t : List ℕ) → textOf s ≡ accepted p t → textOf t ≡ accepted p t
 unfolding textOf joined
 round-trip s p t e =
     let o = opens s p t e in
     let c : All Clean (header ∷ o .rest) = rw (o .split) at (pieces-clean s) in
-    let k = kept-lines 2 opened (o .rest) p t (c .1) (o .lead) in
+    let k = kept-lines 2 openedReading (o .rest) p t (c .1) (o .lead) in
     let x : t ≡ joined (header ∷ k .kept) = k .text in
     let y : pieces t ≡ header ∷ (k .kept ++ ([] ∷ [])) =
     ap pieces x ∙ ap pieces (sym (append-nil (joined (header ∷ k .kept)))) ∙ pieces-joined (header ∷ k .kept) [] (header-clean, k .clean) ∙ ap (λ (ps : List (List ℕ)). header ∷ (k .kept ++ ps)) pieces-nothing in

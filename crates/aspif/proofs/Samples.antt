@@ -4,7 +4,7 @@ use mathlib.Core.List.{List, [], _∷_, map}
 use Prim.Native.Nat.{ℕ}
 use lib.IntN.{pos, negsuc}
 use Rattle.asp.specs.Program.{normal, constraint, plain, choice, Program}
-use Rattle.aspif_lines.specs.Text.{textOf, pieces, same, lines, stepped, statement, token, number, digits, decimal, natural, signedToken, signed, atom, literal, more, opening, bodyCount, ruleLine, pair, minimiseLine, symbolLine, ofKind, fits, sum, insert, accepted, refused}
+use Rattle.aspif_lines.specs.Text.{textOf, pieces, sameBytes, lines, steppedLine, statement, token, number, digits, decimal, natural, signedToken, signed, atom, literal, more, opening, bodyCount, ruleLine, pair, minimiseLine, symbolLine, ofKind, fits, sum, insert, accepted, refused}
 
 -- ---- `plan.aspif`
 
@@ -25,19 +25,19 @@ planProgram =
     }
 
 pub plan-reads : textOf plan ≡ accepted planProgram plan
-unfolding textOf pieces same lines stepped statement token number digits decimal natural signedToken signed atom literal more opening bodyCount ruleLine pair minimiseLine symbolLine ofKind fits sum insert
+unfolding textOf pieces sameBytes lines steppedLine statement token number digits decimal natural signedToken signed atom literal more opening bodyCount ruleLine pair minimiseLine symbolLine ofKind fits sum insert
 plan-reads = refl
 
 -- with a comment before its first statement it is stored without it
 
 pub plan-remarked : textOf (97 ∷ 115 ∷ 112 ∷ 32 ∷ 49 ∷ 32 ∷ 48 ∷ 32 ∷ 48 ∷ 10 ∷ 49 ∷ 48 ∷ 32 ∷ 120 ∷ 10 ∷ 49 ∷ 32 ∷ 49 ∷ 32 ∷ 50 ∷ 32 ∷ 49 ∷ 32 ∷ 50 ∷ 32 ∷ 48 ∷ 32 ∷ 48 ∷ 10 ∷ 49 ∷ 32 ∷ 48 ∷ 32 ∷ 49 ∷ 32 ∷ 51 ∷ 32 ∷ 48 ∷ 32 ∷ 50 ∷ 32 ∷ 49 ∷ 32 ∷ 50 ∷ 10 ∷ 49 ∷ 32 ∷ 48 ∷ 32 ∷ 48 ∷ 32 ∷ 48 ∷ 32 ∷ 50 ∷ 32 ∷ 45 ∷ 49 ∷ 32 ∷ 45 ∷ 50 ∷ 10 ∷ 50 ∷ 32 ∷ 49 ∷ 32 ∷ 50 ∷ 32 ∷ 49 ∷ 32 ∷ 50 ∷ 32 ∷ 50 ∷ 32 ∷ 51 ∷ 10 ∷ 52 ∷ 32 ∷ 49 ∷ 32 ∷ 97 ∷ 32 ∷ 49 ∷ 32 ∷ 49 ∷ 10 ∷ 52 ∷ 32 ∷ 49 ∷ 32 ∷ 98 ∷ 32 ∷ 49 ∷ 32 ∷ 50 ∷ 10 ∷ 48 ∷ 10 ∷ []) ≡ accepted planProgram plan
-unfolding textOf pieces same lines stepped statement token number digits decimal natural signedToken signed atom literal more opening bodyCount ruleLine pair minimiseLine symbolLine ofKind fits sum insert
+unfolding textOf pieces sameBytes lines steppedLine statement token number digits decimal natural signedToken signed atom literal more opening bodyCount ruleLine pair minimiseLine symbolLine ofKind fits sum insert
 plan-remarked = refl
 
 -- ---- priorities, highest first, each once
 
 pub levels-sorted : textOf (97 ∷ 115 ∷ 112 ∷ 32 ∷ 49 ∷ 32 ∷ 48 ∷ 32 ∷ 48 ∷ 10 ∷ 50 ∷ 32 ∷ 45 ∷ 51 ∷ 32 ∷ 48 ∷ 10 ∷ 50 ∷ 32 ∷ 55 ∷ 32 ∷ 48 ∷ 10 ∷ 50 ∷ 32 ∷ 48 ∷ 32 ∷ 48 ∷ 10 ∷ 50 ∷ 32 ∷ 55 ∷ 32 ∷ 48 ∷ 10 ∷ 48 ∷ 10 ∷ []) ≡ accepted (record { rules = []; priorities = pos 7 ∷ pos 0 ∷ negsuc 2 ∷ []; entries = []; symbols = [] }) (97 ∷ 115 ∷ 112 ∷ 32 ∷ 49 ∷ 32 ∷ 48 ∷ 32 ∷ 48 ∷ 10 ∷ 50 ∷ 32 ∷ 45 ∷ 51 ∷ 32 ∷ 48 ∷ 10 ∷ 50 ∷ 32 ∷ 55 ∷ 32 ∷ 48 ∷ 10 ∷ 50 ∷ 32 ∷ 48 ∷ 32 ∷ 48 ∷ 10 ∷ 50 ∷ 32 ∷ 55 ∷ 32 ∷ 48 ∷ 10 ∷ 48 ∷ 10 ∷ [])
-unfolding textOf pieces same lines stepped statement token number digits decimal natural signedToken signed atom literal more opening bodyCount ruleLine pair minimiseLine symbolLine ofKind fits sum insert
+unfolding textOf pieces sameBytes lines steppedLine statement token number digits decimal natural signedToken signed atom literal more opening bodyCount ruleLine pair minimiseLine symbolLine ofKind fits sum insert
 levels-sorted = refl
 
 -- ---- refusals, as one table
@@ -98,5 +98,5 @@ cases =
     []
 
 pub refusals : map (λ (c : Case). textOf (c .text)) cases ≡ map (λ (c : Case). refused (c .number) (c .line)) cases
-unfolding textOf pieces same lines stepped statement token number digits decimal natural signedToken signed atom literal more opening bodyCount ruleLine pair minimiseLine symbolLine ofKind fits sum insert
+unfolding textOf pieces sameBytes lines steppedLine statement token number digits decimal natural signedToken signed atom literal more opening bodyCount ruleLine pair minimiseLine symbolLine ofKind fits sum insert
 refusals = refl

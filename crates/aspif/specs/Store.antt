@@ -10,15 +10,15 @@ use lib.Signed.{ltZ}
 use Rattle.asp.specs.Sets.{pick}
 use Rattle.asp.specs.Program.{Rule, Entry, Symbol, Program, highest, ruleAtoms, atoms, All, ProgramIn}
 use Rattle.asp.specs.Tables.{literalsAt, rowAt, rulesOf, entriesOf, symbolsOf, Tables, programOf, Formed}
-use Rattle.aspif_lines.specs.Text.{got, bad, nil, ruleLine, Minimise, minimiseLine, symbolLine, Reading, insert, sum, ruleSize, conditionSize, nameSize, limits, Step, stop, last, goes, Answer, accepted, refused, lines, pieces, none}
+use Rattle.aspif_lines.specs.Text.{got, bad, nil, ruleLine, Minimise, minimiseLine, symbolLine, Reading, insert, sum, ruleSize, conditionSize, nameSize, limits, Step, stop, last, goes, Answer, accepted, refused, lines, pieces, emptyProgram}
 use Rattle.aspif_lines.specs.Seen.{bytesAt}
 use Rattle.aspif.specs.declared.table.Counts.{Counts}
-use Rattle.aspif.specs.declared.add.Turn.{Turn}
-use Rattle.aspif.specs.declared.add.Turn.the-variants as turn
+use Rattle.aspif.specs.declared.add.LineTurn.{LineTurn}
+use Rattle.aspif.specs.declared.add.LineTurn.the-variants as turn
 use Rattle.aspif.specs.declared.text.Onward.{Onward}
 use Rattle.aspif.specs.declared.text.Onward.the-variants as onward
-use Rattle.aspif.specs.declared.text.Verdict.{Verdict}
-use Rattle.aspif.specs.declared.text.Verdict.the-variants as verdict
+use Rattle.aspif.specs.declared.text.TextVerdict.{TextVerdict}
+use Rattle.aspif.specs.declared.text.TextVerdict.the-variants as verdict
 use Rattle.aspif.specs.declared.text.Loading.{Loading}
 use Rattle.aspif.specs.declared.text.Loading.the-variants.{Accepted, RefusedAt}
 use Rattle.aspif.specs.declared.text.Stored.{Stored}
@@ -74,7 +74,7 @@ pub record RuleAdded (pool : List ℤ) (rules : List ℕ) (pool′ : List ℤ) (
   pub longPool : length pool′ ≡ length pool
   pub longRules : length rules′ ≡ length rules
 
-abbrev pub AddedRule : List ℤ → List ℕ → List ℤ → List ℕ → Counts → ℕ → List ℕ → Turn → Type 0
+abbrev pub AddedRule : List ℤ → List ℕ → List ℤ → List ℕ → Counts → ℕ → List ℕ → LineTurn → Type 0
 AddedRule pool rules pool′ rules′ n end l (turn.Refused c) = ruleLine l ≡ bad c
 AddedRule pool rules pool′ rules′ n end l (turn.Last m) = ⊥
 AddedRule pool rules pool′ rules′ n end l (turn.Goes m) = RuleAdded pool rules pool′ rules′ n end l m
@@ -95,7 +95,7 @@ pub record MinimiseAdded (ps ls : List ℤ) (ws : List ℕ) (levels ps′ ls′ 
   pub longWeights : length ws′ ≡ length ws
   pub longLevels : length levels′ ≡ length levels
 
-abbrev pub AddedMinimise : List ℤ → List ℤ → List ℕ → List ℤ → List ℤ → List ℤ → List ℕ → List ℤ → Counts → ℕ → List ℕ → Turn → Type 0
+abbrev pub AddedMinimise : List ℤ → List ℤ → List ℕ → List ℤ → List ℤ → List ℤ → List ℕ → List ℤ → Counts → ℕ → List ℕ → LineTurn → Type 0
 AddedMinimise ps ls ws levels ps′ ls′ ws′ levels′ n end l (turn.Refused c) = minimiseLine l ≡ bad c
 AddedMinimise ps ls ws levels ps′ ls′ ws′ levels′ n end l (turn.Last m) = ⊥
 AddedMinimise ps ls ws levels ps′ ls′ ws′ levels′ n end l (turn.Goes m) = MinimiseAdded ps ls ws levels ps′ ls′ ws′ levels′ n end l m
@@ -114,7 +114,7 @@ pub record SymbolAdded (text : List ℕ) (conditions : List ℤ) (symbols : List
   pub longConditions : length conditions′ ≡ length conditions
   pub longSymbols : length symbols′ ≡ length symbols
 
-abbrev pub AddedSymbol : List ℕ → List ℤ → List ℕ → List ℤ → List ℕ → Counts → ℕ → List ℕ → Turn → Type 0
+abbrev pub AddedSymbol : List ℕ → List ℤ → List ℕ → List ℤ → List ℕ → Counts → ℕ → List ℕ → LineTurn → Type 0
 AddedSymbol text conditions symbols conditions′ symbols′ n end l (turn.Refused c) = symbolLine l ≡ bad c
 AddedSymbol text conditions symbols conditions′ symbols′ n end l (turn.Last m) = ⊥
 AddedSymbol text conditions symbols conditions′ symbols′ n end l (turn.Goes m) = SymbolAdded text conditions symbols conditions′ symbols′ n end l m
@@ -124,7 +124,7 @@ finalCounts n end =
     record { rules = n .rules; used = n .used; entries = n .entries; levels = n .levels; symbols = n .symbols; conditions = n .conditions; names = n .names; text = end; atoms = n .atoms }
 
 -- the `0` line, a comment, or a kind that is not read
-abbrev pub otherTurn : ℕ → List ℕ → Counts → ℕ → Turn
+abbrev pub otherTurn : ℕ → List ℕ → Counts → ℕ → LineTurn
 otherTurn kind l n end = pick (eqb kind 0) (pick (nil l) (turn.Last (finalCounts n end)) (turn.Refused 2)) (pick (eqb kind 10) (turn.Goes n) (turn.Refused 3))
 
 -- ---- all tables
@@ -178,7 +178,7 @@ tables t n =
 abbrev pub readingOf : Lists → Counts → Reading
 readingOf t n = record { program = programOf (tables t n); text = bytesAt (t .text) 0 (n .text) }
 
-pub record Sound (t : Lists) (n : Counts) : Type 0 where
+pub record SoundLists (t : Lists) (n : Counts) : Type 0 where
   pub sized : Sized t
   pub rules : RulesSound (t .pool) (t .rules) (n .rules) (n .used)
   pub symbols : SymbolsSound (t .text) (t .conditions) (t .symbols) (n .symbols) (n .conditions) (n .names) (n .text)
@@ -187,18 +187,18 @@ pub record Sound (t : Lists) (n : Counts) : Type 0 where
 
 -- ---- one line
 
-abbrev pub seenTurn : Lists → Turn → Step
+abbrev pub seenTurn : Lists → LineTurn → Step
 seenTurn t (turn.Refused c) = stop c
 seenTurn t (turn.Last n) = last (readingOf t n)
 seenTurn t (turn.Goes n) = goes (readingOf t n)
 
-abbrev pub TurnAfter : Lists → ℕ → Turn → Type 0
+abbrev pub TurnAfter : Lists → ℕ → LineTurn → Type 0
 TurnAfter t end (turn.Refused c) = Unit {0}
-TurnAfter t end (turn.Last n) = Sound t n × (n .text ≤ end)
-TurnAfter t end (turn.Goes n) = Sound t n × (n .text ≤ end)
+TurnAfter t end (turn.Last n) = SoundLists t n × (n .text ≤ end)
+TurnAfter t end (turn.Goes n) = SoundLists t n × (n .text ≤ end)
 
 -- After the line's fields: its byte 10 at `end` of a text of so many bytes, what follows it, the limits.
-abbrev pub onwardOf : Turn → ℕ → ℕ → Onward
+abbrev pub onwardOf : LineTurn → ℕ → ℕ → Onward
 onwardOf (turn.Refused c) end size = onward.Refused c 0
 onwardOf (turn.Last n) end size = pick (eqb end size) (onward.Refused 2 0) (pick (eqb (end + 1) size) (onward.Accept n) (onward.Refused 2 1))
 onwardOf (turn.Goes n) end size =
@@ -213,28 +213,28 @@ seenOnward s t m (onward.On n at) = lines (m + 1) (readingOf t n) (pieces (drop 
 
 abbrev pub OnwardAfter : List ℕ → Lists → ℕ → Onward → Type 0
 OnwardAfter s t at (onward.Refused c later) = later ≤ 1
-OnwardAfter s t at (onward.Accept n) = Sound t n
-OnwardAfter s t at (onward.On n next) = Sound t n × Within n × (at < next) × (next ≤ length s) × (n .text ≤ next)
+OnwardAfter s t at (onward.Accept n) = SoundLists t n
+OnwardAfter s t at (onward.On n next) = SoundLists t n × Within n × (at < next) × (next ≤ length s) × (n .text ≤ next)
 
 -- ---- the whole text
 
-abbrev pub seenVerdict : Lists → Verdict → Answer
+abbrev pub seenVerdict : Lists → TextVerdict → Answer
 seenVerdict t (verdict.Taken n) = accepted (readingOf t n .program) (readingOf t n .text)
 seenVerdict t (verdict.Refused c m) = refused c m
 
-abbrev pub VerdictAfter : Lists → Verdict → Type 0
-VerdictAfter t (verdict.Taken n) = Sound t n
+abbrev pub VerdictAfter : Lists → TextVerdict → Type 0
+VerdictAfter t (verdict.Taken n) = SoundLists t n
 VerdictAfter t (verdict.Refused c m) = Unit {0}
 
 -- nothing but so many bytes of text
 abbrev pub noCounts : ℕ → Counts
 noCounts used = record { rules = 0; used = 0; entries = 0; levels = 0; symbols = 0; conditions = 0; names = 0; text = used; atoms = 0 }
 
-abbrev pub countsOf : Verdict → Counts
+abbrev pub countsOf : TextVerdict → Counts
 countsOf (verdict.Taken n) = n
 countsOf (verdict.Refused c m) = noCounts 0
 
-abbrev pub answerFor : Verdict → Loading
+abbrev pub answerFor : TextVerdict → Loading
 answerFor (verdict.Taken n) = Accepted
 answerFor (verdict.Refused c m) = RefusedAt c m
 
@@ -262,7 +262,7 @@ pub record WellFormed (p : Stored) : Type 0 where
   pub text : p .counts .text ≤ 65536
   -- "16,384 head atoms and body literals"
   pub size : sum ruleSize (storedProgram p .rules) ≤ 16384
-  -- "n is the highest atom named, 0 if none"
+  -- "n is the highest atom named, 0 if emptyProgram"
   pub atoms : p .counts .atoms ≡ atoms (storedProgram p)
   pub formed : Formed (p .counts .atoms) (p .pool) (p .rules) (p .counts .rules)
   pub named : ProgramIn (p .counts .atoms) (storedProgram p)
@@ -272,4 +272,4 @@ pub record WellFormed (p : Stored) : Type 0 where
 
 abbrev pub StoredAfter : Stored → Loading → Type 0
 StoredAfter p Accepted = WellFormed p
-StoredAfter p (RefusedAt c m) = (storedProgram p ≡ none) × (storedText p ≡ [])
+StoredAfter p (RefusedAt c m) = (storedProgram p ≡ emptyProgram) × (storedText p ≡ [])

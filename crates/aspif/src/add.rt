@@ -25,7 +25,7 @@ ghost use Rattle.aspif_lines.specs.Seen.{bytesAt};
 ghost use Rattle.aspif.specs.Store.{Within, RulesSound, SymbolsSound, Descending, AddedRule, AddedMinimise, AddedSymbol, otherTurn};
 
 // What a line leads to: a refusal, the end, or the tables with its statement.
-pub enum Turn {
+pub enum LineTurn {
     Refused { code: u32 },
     Last { counts: Counts },
     Goes { counts: Counts },
@@ -39,7 +39,7 @@ pub fn add_rule(
     rules: &mut Rules,
     n: Counts,
     end: usize,
-) -> Turn
+) -> LineTurn
     requires { ⌜ RulesSound (now pool) (now rules) (n .rules) (n .used) × Within n × (length (now pool) ≡ 18432) × (length (now rules) ≡ 8196) ⌝ }
     ensures { λ r. ⌜ AddedRule (now (pool .entry)) (now (rules .entry)) (now (pool .exit)) (now (rules .exit)) n end (drop at (now (s .entry))) r ⌝ }
 {
@@ -54,7 +54,7 @@ pub fn add_rule(
             push_row(rules, n.rules, flag(choice), n.used, heads, body);
             let count = n.rules + 1;
             let used = n.used + heads + body;
-            Turn::Goes {
+            LineTurn::Goes {
                 counts: Counts {
                     rules: count,
                     used: used,
@@ -64,7 +64,7 @@ pub fn add_rule(
                 },
             }
         }
-        RuleLine::Refused { code } => Turn::Refused { code: code },
+        RuleLine::Refused { code } => LineTurn::Refused { code: code },
     }
 }
 
@@ -78,7 +78,7 @@ pub fn add_minimise(
     levels: &mut [i32],
     n: Counts,
     end: usize,
-) -> Turn
+) -> LineTurn
     requires { ⌜ (length (now priorities) ≡ 1536) × (length (now literals) ≡ 1536) × (length (now weights) ≡ 1536) × (length (now levels) ≡ 9) × Within n × Descending (literalsAt (now levels) 0 (n .levels)) ⌝ }
     ensures { λ r. ⌜ AddedMinimise (now (priorities .entry)) (now (literals .entry)) (now (weights .entry)) (now (levels .entry)) (now (priorities .exit)) (now (literals .exit)) (now (weights .exit)) (now (levels .exit)) n end (drop at (now (s .entry))) r ⌝ }
 {
@@ -91,7 +91,7 @@ pub fn add_minimise(
         } => {
             let different = insert_level(levels, n.levels, priority);
             let entries = n.entries + count;
-            Turn::Goes {
+            LineTurn::Goes {
                 counts: Counts {
                     entries: entries,
                     levels: different,
@@ -101,7 +101,7 @@ pub fn add_minimise(
                 },
             }
         }
-        MinimiseLine::Refused { code } => Turn::Refused { code: code },
+        MinimiseLine::Refused { code } => LineTurn::Refused { code: code },
     }
 }
 
@@ -114,7 +114,7 @@ pub fn add_symbol<'a>(
     symbols: &mut Symbols,
     n: Counts,
     end: usize,
-) -> Turn
+) -> LineTurn
     requires { ⌜ SymbolsSound (now text) (now conditions) (now symbols) (n .symbols) (n .conditions) (n .names) (n .text) × Within n × (end ≡ n .text + length (now s) + 1) × (end ≤ 65537) × (length (now conditions) ≡ 3072) × (length (now symbols) ≡ 2052) × ((a m : ℕ) → a + m ≤ length (now s) → bytesAt (now text) (n .text + a) m ≡ bytesAt (now s) a m) ⌝ }
     ensures { λ r. ⌜ AddedSymbol (now (text .entry)) (now (conditions .entry)) (now (symbols .entry)) (now (conditions .exit)) (now (symbols .exit)) n end (drop at (now (s .entry))) r ⌝ }
 {
@@ -131,7 +131,7 @@ pub fn add_symbol<'a>(
             let count = n.symbols + 1;
             let used = n.conditions + shown;
             let names = n.names + length;
-            Turn::Goes {
+            LineTurn::Goes {
                 counts: Counts {
                     symbols: count,
                     conditions: used,
@@ -142,24 +142,24 @@ pub fn add_symbol<'a>(
                 },
             }
         }
-        SymbolLine::Refused { code } => Turn::Refused { code: code },
+        SymbolLine::Refused { code } => LineTurn::Refused { code: code },
     }
 }
 
 // A line of another kind: the `0` line, a comment, or a kind that is not read.
-pub fn add_other(s: &[u8], at: usize, kind: u32, n: Counts, end: usize) -> Turn
+pub fn add_other(s: &[u8], at: usize, kind: u32, n: Counts, end: usize) -> LineTurn
     ensures { λ r. ⌜ r ≡ otherTurn kind (drop at (now (s .entry))) n end ⌝ }
 {
     match kind {
         0 => {
             if is_ended(s, at) {
-                return Turn::Last {
+                return LineTurn::Last {
                     counts: Counts { text: end, ..n },
                 };
             }
-            Turn::Refused { code: 2 }
+            LineTurn::Refused { code: 2 }
         }
-        10 => Turn::Goes { counts: n },
-        _ => Turn::Refused { code: 3 },
+        10 => LineTurn::Goes { counts: n },
+        _ => LineTurn::Refused { code: 3 },
     }
 }

@@ -1,5 +1,5 @@
 // One line into the tables.
-use super::add::Turn;
+use super::add::LineTurn;
 use super::add::add_minimise;
 use super::add::add_other;
 use super::add::add_rule;
@@ -20,9 +20,9 @@ ghost use mathlib.Core.Path.{_≡_};
 ghost use mathlib.Core.List.{_∷_, _++_};
 ghost use Prim.Native.Nat.{ℕ, _+_, _-_, _<_, _≤_};
 ghost use lib.ListN.{length, take, drop};
-ghost use Rattle.aspif_lines.specs.Text.{pieces, line, stepped};
+ghost use Rattle.aspif_lines.specs.Text.{pieces, line, steppedLine};
 ghost use Rattle.aspif_lines.specs.Seen.{follow, bytesAt, Kept};
-ghost use Rattle.aspif.specs.Store.{lists, Sound, Within, readingOf, seenTurn, TurnAfter};
+ghost use Rattle.aspif.specs.Store.{lists, SoundLists, Within, readingOf, seenTurn, TurnAfter};
 
 const MOST_KIND: u32 = 10; // document 01: "the kind, 0 to 10"
 
@@ -70,14 +70,14 @@ pub fn take_line(
     conditions: &mut Conditions,
     symbols: &mut Symbols,
     n: Counts,
-) -> Turn
-    requires { ⌜ Sound (lists (now text) (now pool) (now rules) (now priorities) (now literals) (now weights) (now levels) (now conditions) (now symbols)) n × Within n × (n .text + length (now s) ≤ 65536) ⌝ }
-    ensures { λ r. ⌜ (seenTurn (lists (now (text .exit)) (now (pool .exit)) (now (rules .exit)) (now (priorities .exit)) (now (literals .exit)) (now (weights .exit)) (now (levels .exit)) (now (conditions .exit)) (now (symbols .exit))) r ≡ stepped (now (s .entry)) (readingOf (lists (now (text .entry)) (now (pool .entry)) (now (rules .entry)) (now (priorities .entry)) (now (literals .entry)) (now (weights .entry)) (now (levels .entry)) (now (conditions .entry)) (now (symbols .entry))) n)) × TurnAfter (lists (now (text .exit)) (now (pool .exit)) (now (rules .exit)) (now (priorities .exit)) (now (literals .exit)) (now (weights .exit)) (now (levels .exit)) (now (conditions .exit)) (now (symbols .exit))) (n .text + length (now (s .entry)) + 1) r ⌝ }
+) -> LineTurn
+    requires { ⌜ SoundLists (lists (now text) (now pool) (now rules) (now priorities) (now literals) (now weights) (now levels) (now conditions) (now symbols)) n × Within n × (n .text + length (now s) ≤ 65536) ⌝ }
+    ensures { λ r. ⌜ (seenTurn (lists (now (text .exit)) (now (pool .exit)) (now (rules .exit)) (now (priorities .exit)) (now (literals .exit)) (now (weights .exit)) (now (levels .exit)) (now (conditions .exit)) (now (symbols .exit))) r ≡ steppedLine (now (s .entry)) (readingOf (lists (now (text .entry)) (now (pool .entry)) (now (rules .entry)) (now (priorities .entry)) (now (literals .entry)) (now (weights .entry)) (now (levels .entry)) (now (conditions .entry)) (now (symbols .entry))) n)) × TurnAfter (lists (now (text .exit)) (now (pool .exit)) (now (rules .exit)) (now (priorities .exit)) (now (literals .exit)) (now (weights .exit)) (now (levels .exit)) (now (conditions .exit)) (now (symbols .exit))) (n .text + length (now (s .entry)) + 1) r ⌝ }
 {
     let end = append_line(text, n.text, s);
     let k = read_number(s, 0, 0, MOST_KIND);
     let Number::Value { value: kind, next } = k else {
-        return Turn::Refused { code: k.code() };
+        return LineTurn::Refused { code: k.code() };
     };
     match kind {
         1 => add_rule(s, next, pool, rules, n, end),

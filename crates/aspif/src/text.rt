@@ -1,5 +1,5 @@
 // The lines of a text in order, and the text as a whole.
-use super::add::Turn;
+use super::add::LineTurn;
 use super::line::append_line;
 use super::line::line_end;
 use super::line::take_line;
@@ -24,8 +24,8 @@ use aspif_lines::room::Weights;
 ghost use mathlib.Core.Path.{_≡_};
 ghost use Prim.Native.Nat.{ℕ, _+_, _<_, _≤_};
 ghost use lib.ListN.{length, drop};
-ghost use Rattle.aspif_lines.specs.Text.{same, header, textOf, lines, pieces};
-ghost use Rattle.aspif.specs.Store.{lists, Sized, Sound, Within, readingOf, onwardOf, seenOnward, OnwardAfter, seenVerdict, VerdictAfter, noCounts, countsOf, answerFor, answerOf, StoredAfter};
+ghost use Rattle.aspif_lines.specs.Text.{sameBytes, header, textOf, lines, pieces};
+ghost use Rattle.aspif.specs.Store.{lists, Sized, SoundLists, Within, readingOf, onwardOf, seenOnward, OnwardAfter, seenVerdict, VerdictAfter, noCounts, countsOf, answerFor, answerOf, StoredAfter};
 
 const MOST_BYTES: usize = 65536; // document 01: "At most 65,536 bytes."
 
@@ -37,16 +37,16 @@ pub enum Onward {
 }
 
 // After the line's fields: its byte 10 at `end`, what follows it, the limits.
-fn after_line(t: Turn, end: usize, length: usize) -> Onward
+fn after_line(t: LineTurn, end: usize, length: usize) -> Onward
     requires { ⌜ end ≤ 65536 ⌝ }
     ensures { λ r. ⌜ r ≡ onwardOf t end length ⌝ }
 {
     match t {
-        Turn::Refused { code } => Onward::Refused {
+        LineTurn::Refused { code } => Onward::Refused {
             code: code,
             later: 0,
         },
-        Turn::Last { counts } => {
+        LineTurn::Last { counts } => {
             if end == length {
                 return Onward::Refused { code: 2, later: 0 };
             }
@@ -55,7 +55,7 @@ fn after_line(t: Turn, end: usize, length: usize) -> Onward
             }
             Onward::Refused { code: 2, later: 1 }
         }
-        Turn::Goes { counts } => {
+        LineTurn::Goes { counts } => {
             if end == length {
                 return Onward::Refused { code: 2, later: 0 };
             }
@@ -86,7 +86,7 @@ fn one_line(
     symbols: &mut Symbols,
     n: Counts,
 ) -> Onward
-    requires { ⌜ Sound (lists (now text) (now pool) (now rules) (now priorities) (now literals) (now weights) (now levels) (now conditions) (now symbols)) n × Within n × (n .text ≤ at) × (at ≤ length (now s)) × (length (now s) ≤ 65536) ⌝ }
+    requires { ⌜ SoundLists (lists (now text) (now pool) (now rules) (now priorities) (now literals) (now weights) (now levels) (now conditions) (now symbols)) n × Within n × (n .text ≤ at) × (at ≤ length (now s)) × (length (now s) ≤ 65536) ⌝ }
     ensures { λ r. ⌜ ((m : ℕ) → seenOnward (now (s .entry)) (lists (now (text .exit)) (now (pool .exit)) (now (rules .exit)) (now (priorities .exit)) (now (literals .exit)) (now (weights .exit)) (now (levels .exit)) (now (conditions .exit)) (now (symbols .exit))) m r ≡ lines m (readingOf (lists (now (text .entry)) (now (pool .entry)) (now (rules .entry)) (now (priorities .entry)) (now (literals .entry)) (now (weights .entry)) (now (levels .entry)) (now (conditions .entry)) (now (symbols .entry))) n) (pieces (drop at (now (s .entry))))) × OnwardAfter (now (s .entry)) (lists (now (text .exit)) (now (pool .exit)) (now (rules .exit)) (now (priorities .exit)) (now (literals .exit)) (now (weights .exit)) (now (levels .exit)) (now (conditions .exit)) (now (symbols .exit))) at r ⌝ }
 {
     let end = line_end(s, at);
@@ -109,7 +109,7 @@ fn one_line(
 }
 
 // What the whole text leads to.
-pub enum Verdict {
+pub enum TextVerdict {
     Taken { counts: Counts },
     Refused { code: u32, line: usize },
 }
@@ -128,8 +128,8 @@ fn read_lines(
     conditions: &mut Conditions,
     symbols: &mut Symbols,
     first: Counts,
-) -> Verdict
-    requires { ⌜ Sound (lists (now text) (now pool) (now rules) (now priorities) (now literals) (now weights) (now levels) (now conditions) (now symbols)) first × Within first × (first .text ≤ from) × (2 ≤ from) × (from ≤ length (now s)) × (length (now s) ≤ 65536) ⌝ }
+) -> TextVerdict
+    requires { ⌜ SoundLists (lists (now text) (now pool) (now rules) (now priorities) (now literals) (now weights) (now levels) (now conditions) (now symbols)) first × Within first × (first .text ≤ from) × (2 ≤ from) × (from ≤ length (now s)) × (length (now s) ≤ 65536) ⌝ }
     ensures { λ r. ⌜ (seenVerdict (lists (now (text .exit)) (now (pool .exit)) (now (rules .exit)) (now (priorities .exit)) (now (literals .exit)) (now (weights .exit)) (now (levels .exit)) (now (conditions .exit)) (now (symbols .exit))) r ≡ lines 2 (readingOf (lists (now (text .entry)) (now (pool .entry)) (now (rules .entry)) (now (priorities .entry)) (now (literals .entry)) (now (weights .entry)) (now (levels .entry)) (now (conditions .entry)) (now (symbols .entry))) first) (pieces (drop from (now (s .entry))))) × VerdictAfter (lists (now (text .exit)) (now (pool .exit)) (now (rules .exit)) (now (priorities .exit)) (now (literals .exit)) (now (weights .exit)) (now (levels .exit)) (now (conditions .exit)) (now (symbols .exit))) r ⌝ }
 {
     let mut at = from;
@@ -153,13 +153,13 @@ fn read_lines(
         match o {
             Onward::Refused { code, later } => {
                 let found = line + later;
-                return Verdict::Refused {
+                return TextVerdict::Refused {
                     code: code,
                     line: found,
                 };
             }
             Onward::Accept { counts } => {
-                return Verdict::Taken { counts: counts };
+                return TextVerdict::Taken { counts: counts };
             }
             Onward::On { counts, at: next } => {
                 n = counts;
@@ -170,9 +170,9 @@ fn read_lines(
     }
 }
 
-// The same bytes.
+// The sameBytes bytes.
 pub fn is_same<'a>(a: &'a [u8], b: &'a [u8]) -> bool
-    ensures { λ r. ⌜ r ≡ same (now (a .entry)) (now (b .entry)) ⌝ }
+    ensures { λ r. ⌜ r ≡ sameBytes (now (a .entry)) (now (b .entry)) ⌝ }
 {
     if a.len() != b.len() {
         return false;
@@ -189,7 +189,7 @@ pub fn is_same<'a>(a: &'a [u8], b: &'a [u8]) -> bool
 
 // Line 1.
 fn is_header(l: &[u8]) -> bool
-    ensures { λ r. ⌜ r ≡ same (now (l .entry)) header ⌝ }
+    ensures { λ r. ⌜ r ≡ sameBytes (now (l .entry)) header ⌝ }
 {
     is_same(l, b"asp 1 0 0")
 }
@@ -223,18 +223,18 @@ fn read_text(
     levels: &mut Levels,
     conditions: &mut Conditions,
     symbols: &mut Symbols,
-) -> Verdict
+) -> TextVerdict
     requires { ⌜ Sized (lists (now text) (now pool) (now rules) (now priorities) (now literals) (now weights) (now levels) (now conditions) (now symbols)) ⌝ }
     ensures { λ r. ⌜ (seenVerdict (lists (now (text .exit)) (now (pool .exit)) (now (rules .exit)) (now (priorities .exit)) (now (literals .exit)) (now (weights .exit)) (now (levels .exit)) (now (conditions .exit)) (now (symbols .exit))) r ≡ textOf (now (s .entry))) × VerdictAfter (lists (now (text .exit)) (now (pool .exit)) (now (rules .exit)) (now (priorities .exit)) (now (literals .exit)) (now (weights .exit)) (now (levels .exit)) (now (conditions .exit)) (now (symbols .exit))) r ⌝ }
 {
     if MOST_BYTES < s.len() {
-        return Verdict::Refused { code: 5, line: 0 };
+        return TextVerdict::Refused { code: 5, line: 0 };
     }
     let end = line_end(s, 0);
     let l = &s[0..end];
     if is_header(l) {
         if end == s.len() {
-            return Verdict::Refused { code: 2, line: 1 };
+            return TextVerdict::Refused { code: 2, line: 1 };
         }
         let used = append_line(text, 0, l);
         let first = no_counts(used);
@@ -254,7 +254,7 @@ fn read_text(
             first,
         );
     }
-    Verdict::Refused { code: 1, line: 1 }
+    TextVerdict::Refused { code: 1, line: 1 }
 }
 
 // A program as it is stored: its tables, and how far each is filled. The text is that of the load less its comment lines.
@@ -282,21 +282,21 @@ pub struct Loaded {
     pub answer: Loading,
 }
 
-fn counts_of(v: Verdict) -> Counts
+fn counts_of(v: TextVerdict) -> Counts
     ensures { λ r. ⌜ r ≡ countsOf v ⌝ }
 {
     match v {
-        Verdict::Taken { counts } => counts,
-        Verdict::Refused { code: _, line: _ } => no_counts(0),
+        TextVerdict::Taken { counts } => counts,
+        TextVerdict::Refused { code: _, line: _ } => no_counts(0),
     }
 }
 
-fn answer_of(v: Verdict) -> Loading
+fn answer_of(v: TextVerdict) -> Loading
     ensures { λ r. ⌜ r ≡ answerFor v ⌝ }
 {
     match v {
-        Verdict::Taken { counts: _ } => Loading::Accepted,
-        Verdict::Refused { code, line } => Loading::RefusedAt {
+        TextVerdict::Taken { counts: _ } => Loading::Accepted,
+        TextVerdict::Refused { code, line } => Loading::RefusedAt {
             number: code,
             line: line,
         },

@@ -8,7 +8,7 @@ use lib.IntN.{ℤ, pos, natAbs}
 use lib.ListN.{length}
 use Rattle.asp.specs.Program.{highest, headAtoms}
 use Rattle.asp.specs.Tables.{named}
-use Rattle.aspif_lines.specs.Text.{Read, got, bad, bind, natural, atom, member, more, headOf, headSize}
+use Rattle.aspif_lines.specs.Text.{Read, got, bad, bind, natural, atom, memberField, more, headOf, headSize}
 use Rattle.aspif_lines.specs.Seen.{Positive}
 use Rattle.aspif_lines.proofs.Spans.{highest-snoc}
 
@@ -27,17 +27,17 @@ pub none-positive : Positive []
 unfolding highest
 none-positive = record { positive = refl }
 
-positives : (k : ℕ) (xs ys : List ℤ) (l r : List ℕ) → Positive xs → got ys r ≡ more (member true) k xs l → Positive ys
+positives : (k : ℕ) (xs ys : List ℤ) (l r : List ℕ) → Positive xs → got ys r ≡ more (memberField true) k xs l → Positive ys
 unfolding more atom
 positives zero xs ys l r h e = let z : ys ≡ xs = cc in rw z h
 positives (suc k) xs ys l r h e = go (natural 1 1024 l) (λ a u. positives k (xs ++ (pos a ∷ [])) ys u r (positive-more xs a h)) e
   where
-    go : (n : Read ℕ) → ((a : ℕ) (u : List ℕ) → got ys r ≡ more (member true) k (xs ++ (pos a ∷ [])) u → Positive ys)
-        → got ys r ≡ bind (bind n (λ a r. got (pos a) r)) (λ a r. more (member true) k (xs ++ (a ∷ [])) r) → Positive ys
+    go : (n : Read ℕ) → ((a : ℕ) (u : List ℕ) → got ys r ≡ more (memberField true) k (xs ++ (pos a ∷ [])) u → Positive ys)
+        → got ys r ≡ bind (bind n (λ a r. got (pos a) r)) (λ a r. more (memberField true) k (xs ++ (a ∷ [])) r) → Positive ys
     go (bad c) f q = let z : _≡_ {A = ℕ} 0 1 = cc in absurd (omega arith)
     go (got a u) f q = f a u q
 
-pub heads-positive : (k : ℕ) (ys : List ℤ) (l r : List ℕ) → got ys r ≡ more (member true) k [] l → Positive ys
+pub heads-positive : (k : ℕ) (ys : List ℤ) (l r : List ℕ) → got ys r ≡ more (memberField true) k [] l → Positive ys
 heads-positive k ys l r e = positives k [] ys l r none-positive e
 
 short : (xs : List ℕ) → length xs ≤ 1 → (headAtoms (headOf false xs) ≡ highest (λ (a : ℕ). a) xs) × (headSize (headOf false xs) ≡ length xs)

@@ -57,7 +57,7 @@ nil (b ∷ l) = false
 abbrev pub formed : ℕ → List ℕ → Bool
 formed n l = ltb 0 n && (not (eqb (next l) 48 && ltb 1 n) && over (drop n l))
 
--- the form. "A place where a number is due and none stands is refusal 2."
+-- the form. "A place where a number is due and emptyProgram stands is refusal 2."
 unfoldable pub token : List ℕ → Read ℕ
 token l = pick (formed (length (digits l)) l) (got (decimal 0 (digits l)) (drop (length (digits l)) l)) (bad 2)
 
@@ -104,16 +104,16 @@ unfoldable pub literal : List ℕ → Read Literal
 literal l = bind (field (signed 1024) l) (λ z r. pick (eqb (natAbs z) 0) (bad 4) (got z r))
 
 -- a head's atom, or a body's literal
-abbrev pub member : Bool → List ℕ → Read Literal
-member true l = atom l
-member false l = literal l
+abbrev pub memberField : Bool → List ℕ → Read Literal
+memberField true l = atom l
+memberField false l = literal l
 
 -- "m and k count what follows": xs, and k more of what f reads
 unfoldable pub more : {A : Type 0} → (List ℕ → Read A) → ℕ → List A → List ℕ → Read (List A)
 more f zero xs l = got xs l
 more f (suc k) xs l = bind (f l) (λ a r. more f k (xs ++ (a ∷ [])) r)
 
--- "with none at the ends": after the last field the line is over
+-- "with emptyProgram at the ends": after the last field the line is over
 abbrev pub ended : {A : Type 0} → A → List ℕ → Read A
 ended a l = pick (nil l) (got a []) (bad 2)
 
@@ -146,9 +146,9 @@ ruleOf c heads body = record { head = headOf c (map named heads); body = normal 
 unfoldable pub ruleLine : List ℕ → Read Rule
 ruleLine l =
     bind (opening l) (λ o l.
-    bind (more (member true) (o .count) [] l) (λ heads l.
+    bind (more (memberField true) (o .count) [] l) (λ heads l.
     bind (bodyCount l) (λ k l.
-    bind (more (member false) k [] l) (λ body l.
+    bind (more (memberField false) k [] l) (λ body l.
     ended (ruleOf (o .choice) heads body) l))))
 
 -- ---- `2 p k` and k pairs of literal and weight: minimise at priority p
@@ -180,7 +180,7 @@ symbolLine l =
     bind (natural 1 64 l) (λ m l.
     bind (field (more nameByte m []) l) (λ name l.
     bind (natural 0 1024 l) (λ k l.
-    bind (more (member false) k [] l) (λ condition l.
+    bind (more (memberField false) k [] l) (λ condition l.
     ended (record { name = name; condition = condition }) l))))
 
 -- ---- statements, each a line
@@ -313,44 +313,44 @@ abbrev pub led : List ℕ → Reading → Read Statement → Step
 led l p (bad c) = stop c
 led l p (got st r) = pick (isFinal st) (last (add l st p)) (goes (add l st p))
 
-unfoldable pub stepped : List ℕ → Reading → Step
-stepped l p = led l p (statement l)
+unfoldable pub steppedLine : List ℕ → Reading → Step
+steppedLine l p = led l p (statement l)
 
 -- On line n, with the pieces ls after it: "a line without its byte 10, found after its fields"; "anything after the `0` line (at the next line)";
 -- "limits after the line", "5: a table limit passed".
-abbrev pub judged : ℕ → List (List ℕ) → Step → (Reading → Answer) → Answer
-judged n ls (stop c) go = refused c n
-judged n [] (last q) go = refused 2 n
-judged n [] (goes q) go = refused 2 n
-judged n (m ∷ ms) (last q) go = pick (nothing (m ∷ ms)) (accepted (q .program) (q .text)) (refused 2 (n + 1))
-judged n (m ∷ ms) (goes q) go = pick (fits (q .program)) (go q) (refused 5 n)
+abbrev pub judgedLine : ℕ → List (List ℕ) → Step → (Reading → Answer) → Answer
+judgedLine n ls (stop c) go = refused c n
+judgedLine n [] (last q) go = refused 2 n
+judgedLine n [] (goes q) go = refused 2 n
+judgedLine n (m ∷ ms) (last q) go = pick (nothing (m ∷ ms)) (accepted (q .program) (q .text)) (refused 2 (n + 1))
+judgedLine n (m ∷ ms) (goes q) go = pick (fits (q .program)) (go q) (refused 5 n)
 
 -- "Lines go in order": n, n + 1 and so on; the last piece has no byte 10. An empty last piece has no kind: so "no `0` line (at the line after the last)" is 2.
 unfoldable pub lines : ℕ → Reading → List (List ℕ) → Answer
 lines n p [] = refused 2 n
-lines n p (l ∷ ls) = judged n ls (stepped l p) (λ (q : Reading). lines (n + 1) q ls)
+lines n p (l ∷ ls) = judgedLine n ls (steppedLine l p) (λ (q : Reading). lines (n + 1) q ls)
 
 -- "Line 1 is `asp 1 0 0`"
 abbrev pub header : List ℕ
 header = 97 ∷ 115 ∷ 112 ∷ 32 ∷ 49 ∷ 32 ∷ 48 ∷ 32 ∷ 48 ∷ []
 
-unfoldable pub same : List ℕ → List ℕ → Bool
-same [] [] = true
-same [] (b ∷ l) = false
-same (a ∷ k) [] = false
-same (a ∷ k) (b ∷ l) = eqb a b && same k l
+unfoldable pub sameBytes : List ℕ → List ℕ → Bool
+sameBytes [] [] = true
+sameBytes [] (b ∷ l) = false
+sameBytes (a ∷ k) [] = false
+sameBytes (a ∷ k) (b ∷ l) = eqb a b && sameBytes k l
 
-abbrev pub none : Program
-none = record { rules = []; priorities = []; entries = []; symbols = [] }
+abbrev pub emptyProgram : Program
+emptyProgram = record { rules = []; priorities = []; entries = []; symbols = [] }
 
-abbrev pub opened : Reading
-opened = record { program = none; text = line header }
+abbrev pub openedReading : Reading
+openedReading = record { program = emptyProgram; text = line header }
 
 -- "1: line 1 is missing or differs (if only its byte 10 lacks, 2)"
 abbrev pub headed : List (List ℕ) → Answer
 headed [] = refused 1 1
-headed (l ∷ []) = pick (same l header) (refused 2 1) (refused 1 1)
-headed (l ∷ m ∷ ms) = pick (same l header) (lines 2 opened (m ∷ ms)) (refused 1 1)
+headed (l ∷ []) = pick (sameBytes l header) (refused 2 1) (refused 1 1)
+headed (l ∷ m ∷ ms) = pick (sameBytes l header) (lines 2 openedReading (m ∷ ms)) (refused 1 1)
 
 -- "At most 65,536 bytes"; "5: .. a text too long gives line 0 before all else"
 unfoldable pub textOf : List ℕ → Answer

@@ -8,7 +8,7 @@ ghost use mathlib.Core.List.{[]};
 ghost use Prim.Native.Nat.{_+_, _<_, _≤_, max};
 ghost use lib.ListN.{length, drop};
 ghost use lib.IntN.{pos, natAbs};
-ghost use Rattle.aspif_lines.specs.Text.{member, more};
+ghost use Rattle.aspif_lines.specs.Text.{memberField, more};
 ghost use Rattle.aspif_lines.specs.Seen.{refusal, seenSigned, Small, seenLits, TopOf, Kept};
 
 // A list read up to a position, with the highest atom so far; or the refusal in it.
@@ -31,7 +31,7 @@ impl Listed {
 
 // A head's atom, or a body's literal.
 fn read_member(s: &[u8], at: usize, head: bool) -> Signed
-    ensures { λ r. ⌜ (seenSigned (now (s .entry)) r ≡ member head (drop at (now (s .entry)))) × Small 1024 r ⌝ }
+    ensures { λ r. ⌜ (seenSigned (now (s .entry)) r ≡ memberField head (drop at (now (s .entry)))) × Small 1024 r ⌝ }
 {
     if head {
         read_atom(s, at)
@@ -60,7 +60,7 @@ pub fn read_members(
     start: usize,
 ) -> Listed
     requires { ⌜ used + k ≤ length (now pool) ⌝ }
-    ensures { λ r. ⌜ (seenLits (now (s .entry)) (now (pool .exit)) used k r ≡ more (member head) k [] (drop at (now (s .entry)))) × TopOf (now (pool .exit)) used k start r × Kept (pos 0) used (now (pool .entry)) (now (pool .exit)) ⌝ }
+    ensures { λ r. ⌜ (seenLits (now (s .entry)) (now (pool .exit)) used k r ≡ more (memberField head) k [] (drop at (now (s .entry)))) × TopOf (now (pool .exit)) used k start r × Kept (pos 0) used (now (pool .entry)) (now (pool .exit)) ⌝ }
 {
     let mut p = at;
     let mut top = start;

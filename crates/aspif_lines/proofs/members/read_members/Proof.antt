@@ -8,7 +8,7 @@ use Rattle.asp.specs.Program.{highest}
 use native.Mathlib.Nat.{sub-zero}
 use Rattle.aspif_lines.specs.Seen.{seenSigned}
 use lib.ListN.{length, drop}
-use Rattle.aspif_lines.specs.Text.{member, more}
+use Rattle.aspif_lines.specs.Text.{memberField, more}
 use Rattle.asp.specs.Tables.{span, literalsAt}
 use Rattle.aspif_lines.specs.Seen.{Kept}
 use Rattle.aspif_lines.proofs.Spans.{literalsAt-push, kept-refl, kept-set, highest-snoc, highest-none, more-got, more-bad, more-done}
@@ -20,7 +20,7 @@ use Rattle.aspif_lines.proofs.members.read_members.Tie as tie
 abbrev Inv-loop : tie.InvT-loop
 Inv-loop s at head k pool₀ used start p₀ top₀ i₀ pool p top i =
     (i ≤ k)
-    × (more (member head) (k - i) (literalsAt pool used i) (drop p s) ≡ more (member head) k [] (drop at s))
+    × (more (memberField head) (k - i) (literalsAt pool used i) (drop p s) ≡ more (memberField head) k [] (drop at s))
     × Kept (pos 0) used pool₀ pool
     × (top ≡ max start (highest natAbs (literalsAt pool used i)))
 
@@ -52,7 +52,7 @@ returns c =
     let loop = c .before .before .before .before .before .loop in
     let loop-test = c .before .before .before .before .loop-test in
     let read-member = c .before .before .before .read-member in
-    (rw (c .code .ensures, ← loop .inv .1, more-bad (member (args .head)) (args .k) (loop .i) _ _ _ (loop-test .taken) (sym (read-member .ensures .0) ∙ ap (seenSigned (args .s .now)) (c .before .enum-told .given .1)), c .before .enum-told .given .1), tt, loop .inv .2)
+    (rw (c .code .ensures, ← loop .inv .1, more-bad (memberField (args .head)) (args .k) (loop .i) _ _ _ (loop-test .taken) (sym (read-member .ensures .0) ∙ ap (seenSigned (args .s .now)) (c .before .enum-told .given .1)), c .before .enum-told .given .1), tt, loop .inv .2)
 
 add-j : tie.Need-add-j Inv-loop μ-loop
 add-j c = omega (arith, c .before .before .before .before .before .before .before .good)
@@ -89,7 +89,7 @@ loop-again c =
     let i = loop .i in
     let h : u + i < length pool = omega (arith, loop .inv .2 .long) in (
       omega arith,
-      rw (b, literalsAt-push pool u i z h) (sym (more-got (member (args .head)) (args .k) i (literalsAt pool u i) _ _ _ (loop-test .taken) (sym (read-member .ensures .0) ∙ ap (seenSigned (args .s .now)) (m .given .1))) ∙ loop .inv .1),
+      rw (b, literalsAt-push pool u i z h) (sym (more-got (memberField (args .head)) (args .k) i (literalsAt pool u i) _ _ _ (loop-test .taken) (sym (read-member .ensures .0) ∙ ap (seenSigned (args .s .now)) (m .given .1))) ∙ loop .inv .1),
       kept-set (pos 0) u _ pool (u + i) _ (loop .inv .2) (omega arith),
       rw (b, literalsAt-push pool u i z h, highest-snoc natAbs (literalsAt pool u i) z) (omega (arith, loop .inv .3, rw b at (c .higher .ensures))),
     )
@@ -101,7 +101,7 @@ returns-2 : tie.Need-returns-2 Inv-loop μ-loop
 returns-2 c =
     let args = c .before .before .before .args in
     let e : c .before .loop .i ≡ args .k = omega arith in
-    (rw (← c .before .loop .inv .1, more-done (member (args .head)) (args .k) (c .before .loop .i) _ _ (c .loop-test .left), e), rw e at (c .before .loop .inv .3), c .before .loop .inv .2)
+    (rw (← c .before .loop .inv .1, more-done (memberField (args .head)) (args .k) (c .before .loop .i) _ _ (c .loop-test .left), e), rw e at (c .before .loop .inv .3), c .before .loop .inv .2)
 
 pub read-members-spec : {M : Type 1} → statement M
 read-members-spec =
