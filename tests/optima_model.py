@@ -1,5 +1,5 @@
 #!/usr/bin/env python3
-"""Document 01's machine, advance by advance, with the parts that it leaves free as DESIGN fixes them ("The machine, with the free parts fixed").
+"""Document 01's machine, advance by advance, with the parts that it leaves free as docs/DECISIONS.md says ("The free parts of the machine").
 
 Written from those two papers and in their words, not from the code: sets are Python sets, a path is a list of literals with their marks, a wish is judged by
 counting its core's unmet members each time. "Broken in every set that agrees with the path" is tried out over every choice for the undecided atoms of the rule.

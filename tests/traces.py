@@ -1,5 +1,5 @@
 #!/usr/bin/env python3
-"""The traces that crates/search_traces must print, written from document 01 ("Plans and costs", "Question and path") and DESIGN's branching and blame.
+"""The traces that crates/search_traces must print, written from document 01 ("Plans and costs", "Question and path") and the branching and blame of docs/DECISIONS.md.
 
 Nothing here goes by conditions or by values: a rule or a wish is broken in every set that agrees with the path if it is broken in each subset of the atoms
 that agrees, tried one by one; stable models are found by trying every subset.  Usage: python3 tests/traces.py > crates/search_traces/stdout

@@ -1,4 +1,4 @@
--- One step of a query, on the tables: the test, the judgement of a full trail, the move, the blame. Document 01, "Question and path"; DESIGN, "The machine".
+-- One step of a query, on the tables: the test, the judgement of a full trail, the move, the blame. Document 01, "Question and path"; what it leaves free is as docs/DECISIONS.md says.
 -- Assumes nothing: these are definitions.
 use mathlib.Core.Bool.{Bool, true, false, _&&_}
 use mathlib.Core.List.{List, [], _∷_, _++_, map}

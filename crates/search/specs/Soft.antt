@@ -33,7 +33,7 @@ abbrev pub firstOf : Violation → ℕ → Violation
 firstOf (At j) i = At j
 firstOf Unviolated i = At i
 
--- among the k from i on, with the first violated one so far: one that is blamed already comes before a new one (DESIGN, "Blame")
+-- among the k from i on, with the first violated one so far: one that is blamed already comes before a new one (docs/DECISIONS.md, "blame")
 unfoldable pub violatedFrom : AssumedEntries → List ℕ → Violation → ℕ → ℕ → Violation
 violatedFrom s v a i zero = a
 violatedFrom s v a i (suc k) =
