@@ -146,7 +146,7 @@ full-long : (n : ℕ) (s : AssumedEntries) (v : List ℕ) (len : ℕ) (f : Found
 unfolding unbroken
 full-long n s v len f = go (leb n len) refl (violatedOf s v)
   where
-    go : (b : Bool) → leb n len ≡ b → (x : Violation) → IsFull (pick b Full (openOr (branchOf (s .wished) (s .count) v n f) x)) → n ≤ len
+    go : (b : Bool) → leb n len ≡ b → (x : Violation) → IsFull (pick b Full (openOr (branchOf (s .first) (s .wished) (s .count) v n f) x)) → n ≤ len
     go true e x u = leb-true n len e
     go false e (At i) u = absurd u
     go false e Unviolated u = absurd u
