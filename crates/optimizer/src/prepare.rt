@@ -28,7 +28,15 @@ pub fn prepare<'a>(
 {
     let conditions = indexing::build::lists_of(pool, rows, rulecount, false);
     let heads = indexing::build::lists_of(pool, rows, rulecount, true);
-    let tried = search::first::tried_first(n, pool, rows, rulecount, priorities, literals, weights, entrycount);
+    let tried = search::first::tried_first(
+        pool,
+        rows,
+        rulecount,
+        priorities,
+        literals,
+        weights,
+        entrycount,
+    );
     Preparation {
         conditions: conditions,
         heads: heads,

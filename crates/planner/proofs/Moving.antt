@@ -74,15 +74,18 @@ module _ (s : Service) where
 
 -- ---- load
 
--- what an accepted text leaves can be prepared
+-- what an accepted text leaves is well formed, and can be prepared
+pub loaded-well : (p : Stored) {a : Loading} → a ≡ Accepted → StoredAfter p a → WellFormed p
+loaded-well p e f = subst (StoredAfter p) e f
+
 pub loaded-formed : (p : Stored) {a : Loading} → a ≡ Accepted → StoredAfter p a → (L : List ℤ) → L ≡ levelsUsed p → FormedSource (sourceBy p L)
-loaded-formed p e f L l = subst (λ (x : List ℤ). FormedSource (sourceBy p x)) (sym l) (formed-source p (subst (StoredAfter p) e f))
+loaded-formed p e f L l = subst (λ (x : List ℤ). FormedSource (sourceBy p x)) (sym l) (formed-source p (loaded-well p e f))
 
 pub load-accepted : (s : Service) (x : Answer) (p : Stored) {a : Loading} → a ≡ Accepted → answerOf p a ≡ x → StoredAfter p a → {ix : Preparation} → PreparedFor p ix → {q : Search} → q ≡ freshSearch
     → AfterLoad x s (outcome accepts (service true p ix q))
 load-accepted s x p e t f {ix} o {q} d =
     subst (λ (y : Answer). AfterLoad y s (outcome accepts (service true p ix q))) (ap (answerOf p) (sym e) ∙ t)
-    (refl, record { loaded = refl; tables = record { formed = subst (StoredAfter p) e f; program = refl; text = refl }; prepared = o; search = d })
+    (refl, record { loaded = refl; tables = record { formed = loaded-well p e f; program = refl; text = refl }; prepared = o; search = d })
 
 pub load-refused : (s : Service) (x : Answer) (p : Stored) (c m : ℕ) {a : Loading} → a ≡ RefusedAt c m → answerOf p a ≡ x → AfterLoad x s (outcome (refusesAt c m) s)
 load-refused s x p c m e t = subst (λ (y : Answer). AfterLoad y s (outcome (refusesAt c m) s)) (ap (answerOf p) (sym e) ∙ t) refl
