@@ -122,7 +122,7 @@ class Machine:
         for i in assumed:
             if self.wishes[i][0] == 'entry' and abs(self.wishes[i][1]) not in decided:
                 return -self.wishes[i][1]
-        return free_literal(min(a for a in range(1, self.n + 1) if a not in decided), self.rules)
+        return free_literal(min(a for a in range(1, self.n + 1) if a not in decided), self.rules, self.entries)
 
     def blame(self, unmet):
         """"one of them is blamed, one already blamed before a new one" (the first of several)"""

@@ -6,7 +6,6 @@ that agrees, tried one by one; stable models are found by trying every subset.  
 """
 from itertools import combinations
 
-from branching import free_literal
 
 # (name, n, rules, wishes): a rule is (kind, heads, body), kind 1 for a choice; a wish is the literal that it wishes for
 PROGRAMS = [
@@ -82,7 +81,7 @@ def run(name, n, rules, wishes, out):
                 free = [l for a in range(1, n + 1) if a not in decided for l in (a, -a)]
                 l = next((-l for r in rules for l in free if broken(path + [(l, True)], r)), None)
                 if l is None: l = next((w for w in wishes if abs(w) not in decided), None)
-                if l is None: l = free_literal(min(a for a in range(1, n + 1) if a not in decided), rules)
+                if l is None: l = -min(a for a in range(1, n + 1) if a not in decided)   # no atom is to be tried in first here
                 path.append((l, True)); word, failed = 'open', False
         if failed and not back():
             out.append('%s ended' % word); out.append('core' + ''.join(' %d' % i for i in sorted(blamed))); break

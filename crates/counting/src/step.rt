@@ -7,6 +7,7 @@ use search::step;
 use search::step::Tested;
 ghost use mathlib.Core.Path.{_≡_};
 ghost use Prim.Native.Nat.{ℕ, _≤_};
+ghost use Rattle.asp.specs.Sets.{setOf};
 ghost use Rattle.asp.specs.Tables.{Formed};
 ghost use Rattle.search.specs.Places.{places, Good};
 ghost use Rattle.search.specs.Scan.{rules};
@@ -33,6 +34,7 @@ pub struct AfterStep {
 fn test_by<'a>(
     found: Found,
     n: usize,
+    tried: &'a [u8; 1025],
     wished: &'a [i32],
     blamed: &'a [u8],
     count: usize,
@@ -41,13 +43,22 @@ fn test_by<'a>(
 ) -> Tested
     requires { ⌜ n ≤ 1024 ⌝ }
     requires { ⌜ Noted found ⌝ }
-    requires { ⌜ ReadableSoft (assumedEntries (now wished) (now blamed) count) ⌝ }
-    ensures { λ r. ⌜ r ≡ testBy n (assumedEntries (now (wished .entry)) (now (blamed .entry)) count) (now (value .entry)) len found ⌝ }
+    requires { ⌜ ReadableSoft (assumedEntries (now wished) (now blamed) count (setOf (now tried))) ⌝ }
+    ensures { λ r. ⌜ r ≡ testBy n (assumedEntries (now (wished .entry)) (now (blamed .entry)) count (setOf (now (tried .entry)))) (now (value .entry)) len found ⌝ }
 {
     match found {
         Found::Broken(r) => Tested::RuleBroken(r),
-        Found::Breaker(_) => step::test_unbroken(found, n, wished, blamed, count, value, len),
-        Found::Clear => step::test_unbroken(found, n, wished, blamed, count, value, len),
+        Found::Breaker(_) => step::test_unbroken(
+            found,
+            n,
+            tried,
+            wished,
+            blamed,
+            count,
+            value,
+            len,
+        ),
+        Found::Clear => step::test_unbroken(found, n, tried, wished, blamed, count, value, len),
     }
 }
 
@@ -59,6 +70,7 @@ fn test<'a>(
     starts: &'a [u16],
     lists: &'a [u16],
     n: usize,
+    tried: &'a [u8; 1025],
     wished: &'a [i32],
     blamed: &'a [u8],
     count: usize,
@@ -68,13 +80,13 @@ fn test<'a>(
     m: Marks,
 ) -> Examined
     requires { ⌜ Formed n (now pool) (now rows) rulecount ⌝ }
-    requires { ⌜ FormedSoft n (assumedEntries (now wished) (now blamed) count) ⌝ }
+    requires { ⌜ FormedSoft n (assumedEntries (now wished) (now blamed) count (setOf (now tried))) ⌝ }
     requires { ⌜ Indexed (rules (now pool) (now rows) rulecount) (index (now starts) (now lists)) × Tracks (rules (now pool) (now rows) rulecount) (index (now starts) (now lists)) (now value) (counters (now key) m) ⌝ }
-    ensures { λ r. ⌜ (r .tested ≡ testOf (rules (now (pool .entry)) (now (rows .entry)) rulecount) n (assumedEntries (now (wished .entry)) (now (blamed .entry)) count) (now (value .entry)) len) × Tracks (rules (now (pool .entry)) (now (rows .entry)) rulecount) (index (now (starts .entry)) (now (lists .entry))) (now (value .entry)) (counters (now (key .entry)) (r .marks)) ⌝ }
+    ensures { λ r. ⌜ (r .tested ≡ testOf (rules (now (pool .entry)) (now (rows .entry)) rulecount) n (assumedEntries (now (wished .entry)) (now (blamed .entry)) count (setOf (now (tried .entry)))) (now (value .entry)) len) × Tracks (rules (now (pool .entry)) (now (rows .entry)) rulecount) (index (now (starts .entry)) (now (lists .entry))) (now (value .entry)) (counters (now (key .entry)) (r .marks)) ⌝ }
 {
     let s = scan::scan(pool, rows, rulecount, key, m, value);
     let found = s.found;
-    let t = test_by(found, n, wished, blamed, count, value, len);
+    let t = test_by(found, n, tried, wished, blamed, count, value, len);
     Examined {
         tested: t,
         marks: Marks {
@@ -92,6 +104,7 @@ pub fn step<'a>(
     starts: &'a [u16],
     lists: &'a [u16],
     n: usize,
+    tried: &'a [u8; 1025],
     wished: &'a [i32],
     blamed: &'a [u8],
     count: usize,
@@ -103,10 +116,10 @@ pub fn step<'a>(
     m: Marks,
 ) -> AfterStep
     requires { ⌜ Formed n (now pool) (now rows) rulecount ⌝ }
-    requires { ⌜ FormedSoft n (assumedEntries (now wished) (now blamed) count) ⌝ }
+    requires { ⌜ FormedSoft n (assumedEntries (now wished) (now blamed) count (setOf (now tried))) ⌝ }
     requires { ⌜ Good (places (now lits) (now signs) (now value) len) ⌝ }
     requires { ⌜ Indexed (rules (now pool) (now rows) rulecount) (index (now starts) (now lists)) × Tracks (rules (now pool) (now rows) rulecount) (index (now starts) (now lists)) (now value) (counters (now key) m) ⌝ }
-    ensures { λ r. ⌜ (stepped (r .tested) (places (now (lits .exit)) (now (signs .exit)) (now (value .exit)) (r .len)) ≡ stepOf (rules (now (pool .entry)) (now (rows .entry)) rulecount) n (assumedEntries (now (wished .entry)) (now (blamed .entry)) count) (places (now (lits .entry)) (now (signs .entry)) (now (value .entry)) len)) × Tracks (rules (now (pool .entry)) (now (rows .entry)) rulecount) (index (now (starts .entry)) (now (lists .entry))) (now (value .exit)) (counters (now (key .exit)) (r .marks)) ⌝ }
+    ensures { λ r. ⌜ (stepped (r .tested) (places (now (lits .exit)) (now (signs .exit)) (now (value .exit)) (r .len)) ≡ stepOf (rules (now (pool .entry)) (now (rows .entry)) rulecount) n (assumedEntries (now (wished .entry)) (now (blamed .entry)) count (setOf (now (tried .entry)))) (places (now (lits .entry)) (now (signs .entry)) (now (value .entry)) len)) × Tracks (rules (now (pool .entry)) (now (rows .entry)) rulecount) (index (now (starts .entry)) (now (lists .entry))) (now (value .exit)) (counters (now (key .exit)) (r .marks)) ⌝ }
 {
     let x = test(
         pool,
@@ -115,6 +128,7 @@ pub fn step<'a>(
         starts,
         lists,
         n,
+        tried,
         wished,
         blamed,
         count,

@@ -1,5 +1,5 @@
 -- The moves keep `Equipped`; a full trail that the machine's test leaves is a leaf. Assumes nothing.
-use mathlib.Core.Path.{_≡_, refl, sym, ap, ap₂, _∙_}
+use mathlib.Core.Path.{_≡_, refl, sym, ap, _∙_}
 use mathlib.Core.Bool.{Bool, true, false}
 use mathlib.Core.List.{List, [], _∷_}
 use Prim.Native.Nat.{ℕ, zero, suc, _+_, _-_, _*_, _≤_, _<_}
@@ -39,8 +39,7 @@ use Rattle.counting.specs.Moves.{CountedTrail, countedTrail, Fit, backAll}
 use Rattle.counting.specs.Counts.{Tracks, Indexed}
 use Rattle.counting.proofs.StepLaws.{back-trail, counted-back, counted-fit}
 use Rattle.indexing.specs.Sorting.{Readied, Sorted}
-use Rattle.indexing.specs.declared.build.Occurrences.{Occurrences}
-use Rattle.indexing.specs.Leaf.{Whole, Unbroken, Leaf, noIndex, noOccurrences, Indexes, Equipped}
+use Rattle.indexing.specs.Leaf.{Whole, Unbroken, Leaf, Indexes, Equipped}
 use Rattle.indexing.proofs.Indexing.{indexed}
 
 module _ {g : Rules} {o h : Index} {v : List ℕ} {t : Counters} (x : Equipped g o h v t) where
@@ -146,7 +145,7 @@ full-long : (n : ℕ) (s : AssumedEntries) (v : List ℕ) (len : ℕ) (f : Found
 unfolding unbroken
 full-long n s v len f = go (leb n len) refl (violatedOf s v)
   where
-    go : (b : Bool) → leb n len ≡ b → (x : Violation) → IsFull (pick b Full (openOr (branchOf (s .wished) (s .count) v n f) x)) → n ≤ len
+    go : (b : Bool) → leb n len ≡ b → (x : Violation) → IsFull (pick b Full (openOr (branchOf (s .first) (s .wished) (s .count) v n f) x)) → n ≤ len
     go true e x u = leb-true n len e
     go false e (At i) u = absurd u
     go false e Unviolated u = absurd u
@@ -185,9 +184,3 @@ pub zeros-small : (n e : ℕ) → getD (replicate n 0) e 0 < 2048
 zeros-small zero e = omega arith
 zeros-small (suc n) zero = omega arith
 zeros-small (suc n) (suc e) = zeros-small n e
-
-abbrev both : Index → Index → Occurrences
-both o h = record { conditions = o; heads = h }
-
-pub none-listed : {o h : Index} → o ≡ noIndex → h ≡ noIndex → both o h ≡ noOccurrences
-none-listed e d = ap₂ both e d

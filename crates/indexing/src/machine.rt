@@ -6,6 +6,7 @@ use counting::trail;
 use counting::trail::Moved;
 ghost use mathlib.Core.Path.{_≡_};
 ghost use Prim.Native.Nat.{ℕ, _≤_, _<_};
+ghost use Rattle.asp.specs.Sets.{setOf};
 ghost use Rattle.asp.specs.Tables.{Formed};
 ghost use Rattle.search.specs.Places.{places, Good, backOf};
 ghost use Rattle.search.specs.Scan.{rules};
@@ -24,6 +25,7 @@ pub fn step<'a>(
     headstarts: &'a [u16],
     headlists: &'a [u16],
     n: usize,
+    tried: &'a [u8; 1025],
     wished: &'a [i32],
     blamed: &'a [u8],
     count: usize,
@@ -35,10 +37,10 @@ pub fn step<'a>(
     m: Marks,
 ) -> AfterStep
     requires { ⌜ Formed n (now pool) (now rows) rulecount ⌝ }
-    requires { ⌜ FormedSoft n (assumedEntries (now wished) (now blamed) count) ⌝ }
+    requires { ⌜ FormedSoft n (assumedEntries (now wished) (now blamed) count (setOf (now tried))) ⌝ }
     requires { ⌜ Good (places (now lits) (now signs) (now value) len) ⌝ }
     requires { ⌜ Equipped (rules (now pool) (now rows) rulecount) (index (now starts) (now lists)) (index (now headstarts) (now headlists)) (now value) (counters (now key) m) ⌝ }
-    ensures { λ r. ⌜ (stepped (r .tested) (places (now (lits .exit)) (now (signs .exit)) (now (value .exit)) (r .len)) ≡ stepOf (rules (now (pool .entry)) (now (rows .entry)) rulecount) n (assumedEntries (now (wished .entry)) (now (blamed .entry)) count) (places (now (lits .entry)) (now (signs .entry)) (now (value .entry)) len)) × Equipped (rules (now (pool .entry)) (now (rows .entry)) rulecount) (index (now (starts .entry)) (now (lists .entry))) (index (now (headstarts .entry)) (now (headlists .entry))) (now (value .exit)) (counters (now (key .exit)) (r .marks)) ⌝ }
+    ensures { λ r. ⌜ (stepped (r .tested) (places (now (lits .exit)) (now (signs .exit)) (now (value .exit)) (r .len)) ≡ stepOf (rules (now (pool .entry)) (now (rows .entry)) rulecount) n (assumedEntries (now (wished .entry)) (now (blamed .entry)) count (setOf (now (tried .entry)))) (places (now (lits .entry)) (now (signs .entry)) (now (value .entry)) len)) × Equipped (rules (now (pool .entry)) (now (rows .entry)) rulecount) (index (now (starts .entry)) (now (lists .entry))) (index (now (headstarts .entry)) (now (headlists .entry))) (now (value .exit)) (counters (now (key .exit)) (r .marks)) ⌝ }
 {
     step::step(
         pool,
@@ -47,6 +49,7 @@ pub fn step<'a>(
         starts,
         lists,
         n,
+        tried,
         wished,
         blamed,
         count,

@@ -12,6 +12,9 @@ use Rattle.asp.specs.Stable.{isStable}
 use Rattle.asp.specs.Cost.{cost, costsAt, cheaper, level}
 use Rattle.asp.specs.Tables.{literalsAt}
 use Rattle.search.specs.declared.trail.Places.{Places}
+use Rattle.search.specs.Scan.{scanOf}
+use Rattle.search.specs.Soft.{assumedEntries}
+use Rattle.search.specs.First.{triedFirst}
 use Rattle.search.specs.Step.{testBy, testOf}
 use Rattle.search.specs.declared.scan.Found.{Found}
 use Rattle.search.specs.declared.step.Tested.{Tested}
@@ -110,12 +113,14 @@ module _ (S R : Source) (f : FormedSource S) (g : FormedSource R) (e : SameSourc
 
   turn-same : (q : QueryTables) (t : Places) (b : Blame) → turnOf S q t b ≡ turnOf R q t b
   unfolding turnOf
-  turn-same q t b = ap (turnBy S q t b) tested ∙ go (testOf (ruleTables R) (R .n) (assumedBy q b) (t .value) (t .len))
+  turn-same q t b = ap (turnBy S q t b) tested ∙ go (testOf (ruleTables R) (R .n) (assumedBy R q b) (t .value) (t .len))
     where
-      tested : testOf (ruleTables S) (S .n) (assumedBy q b) (t .value) (t .len) ≡ testOf (ruleTables R) (R .n) (assumedBy q b) (t .value) (t .len)
+      tested : testOf (ruleTables S) (S .n) (assumedBy S q b) (t .value) (t .len) ≡ testOf (ruleTables R) (R .n) (assumedBy R q b) (t .value) (t .len)
       tested =
-          ap₂ (λ (n : ℕ) (y : Found). testBy n (assumedBy q b) (t .value) (t .len) y) (e .n)
+          ap₂ (λ (n : ℕ) (y : Found). testBy n (assumedBy S q b) (t .value) (t .len) y) (e .n)
           (scan-same (S .n) (R .n) (S .pool) (R .pool) (S .rows) (R .rows) (S .rulecount) (R .rulecount) (f .rules) (g .rules) (e .rules) (t .value))
+          ∙ ap (λ (h : Set). testBy (R .n) (assumedEntries (q .wished) (b .flags) (length (q .wished)) h) (t .value) (t .len) (scanOf (ruleTables R) (t .value)))
+          (ap₂ triedFirst (e .rules) (e .entries))
 
       go : (y : Tested) → turnBy S q t b y ≡ turnBy R q t b y
       go (RuleBroken r) = refl

@@ -50,7 +50,7 @@ Moved t b wanted x = x ≡ turned Model t b
 
 pub moved : (S : Source) (q : QueryTables) (t : Places) (b : Blame) → Moved t b (verdict S q t b) (turnOf S q t b)
 unfolding turnOf
-moved S q t b = go (testOf (ruleTables S) (S .n) (assumedBy q b) (t .value) (t .len))
+moved S q t b = go (testOf (ruleTables S) (S .n) (assumedBy S q b) (t .value) (t .len))
   where
     judged : (j : Judgement) → Moved t b (verdictBy j) (judgedTurn q t b j)
     judged judgement.Wanted = refl
@@ -96,7 +96,7 @@ module _ {S : Source} {q : QueryTables} (r : ReadyQuery S q) {Class : Set → Ty
 
     module _ {b : Blame} (g : GoodBlame q b) (a : All Assumes (blamedOf b)) where
       abbrev tested : Tested
-      tested = testOf (ruleTables S) (S .n) (assumedBy q b) (t .value) (t .len)
+      tested = testOf (ruleTables S) (S .n) (assumedBy S q b) (t .value) (t .len)
 
       abbrev full : Judgement
       full = judgeFull S q (blamedOf b) (t .value)
@@ -109,11 +109,11 @@ module _ {S : Source} {q : QueryTables} (r : ReadyQuery S q) {Class : Set → Ty
 
       in-tables : Exact (asked (literalsAt (q .wished) 0 (length (q .wished)))) u (verdict S q t b)
       in-tables =
-          go tested (exact (S .n) (S .pool) (S .rows) (S .rulecount) (r .source .rules) (assumedBy q b) (soft-formed r g) t d Goal)
-          (test-says (S .n) (S .pool) (S .rows) (S .rulecount) (r .source .rules) (assumedBy q b) (soft-formed r g) t d) (verdict-says r f g a t d)
+          go tested (exact (S .n) (S .pool) (S .rows) (S .rulecount) (r .source .rules) (assumedBy S q b) (soft-formed r g) t d Goal)
+          (test-says (S .n) (S .pool) (S .rows) (S .rulecount) (r .source .rules) (assumedBy S q b) (soft-formed r g) t d) (verdict-says r f g a t d)
         where
-          go : (y : Tested) → steps.Exact (S .n) (S .pool) (S .rows) (S .rulecount) (r .source .rules) (assumedBy q b) (soft-formed r g) t d Goal y
-              → TestSays (S .n) (S .pool) (S .rows) (S .rulecount) (r .source .rules) (assumedBy q b) (soft-formed r g) t d y
+          go : (y : Tested) → steps.Exact (S .n) (S .pool) (S .rows) (S .rulecount) (r .source .rules) (assumedBy S q b) (soft-formed r g) t d Goal y
+              → TestSays (S .n) (S .pool) (S .rows) (S .rulecount) (r .source .rules) (assumedBy S q b) (soft-formed r g) t d y
               → search.Says (problemOf r f) u (verdictOf (nameOf q) (verdictBy full) y) → Exact (asked (literalsAt (q .wished) 0 (length (q .wished)))) u (verdictOf (nameOf q) (verdictBy full) y)
           go (RuleBroken k) e z s = e
           go Full e z s = judged (literalsAt (q .wished) 0 (length (q .wished))) full (z .0) s

@@ -4,6 +4,7 @@ pub mod Turning
 pub mod Finishing
 pub mod Fronts
 pub mod Running
+pub mod Preparing
 pub mod Advancing
 pub mod Fresh
 pub mod Verdicts

@@ -65,9 +65,9 @@ push-adds n t b l = record { one = omega arith; all = λ e. let z : _≡_ {A = �
 
 turn-adds : (S : Source) (q : QueryTables) (t : Places) (b : Blame) → Adds (S .n) t (turnOf S q t b)
 unfolding turnOf
-turn-adds S q t b = go (testOf (ruleTables S) (S .n) (assumedBy q b) (t .value) (t .len)) (told (ruleTables S) (S .n) (assumedBy q b) (t .value) (t .len))
+turn-adds S q t b = go (testOf (ruleTables S) (S .n) (assumedBy S q b) (t .value) (t .len)) (told (ruleTables S) (S .n) (assumedBy S q b) (t .value) (t .len))
   where
-    go : (y : Tested) → Told (S .n) (assumedBy q b) (t .value) (t .len) (scanOf (ruleTables S) (t .value)) y → Adds (S .n) t (turnBy S q t b y)
+    go : (y : Tested) → Told (S .n) (assumedBy S q b) (t .value) (t .len) (scanOf (ruleTables S) (t .value)) y → Adds (S .n) t (turnBy S q t b y)
     go (RuleBroken r) w = backed-adds (S .n) t b
     go Full w = judged-adds (S .n) q t b (judgeFull S q (blamedOf b) (t .value)) (w .1)
     go (SoftViolated i) w = backed-adds (S .n) t (blameEntry (q .places) i b)

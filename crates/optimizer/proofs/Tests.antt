@@ -47,7 +47,7 @@ use Rattle.cores.proofs.Unpacked.{judging-level}
 use Rattle.optimizer.specs.declared.state.Blame.{Blame}
 use Rattle.optimizer.specs.declared.state.Work.{Work}
 use Rattle.optimizer.specs.declared.state.Judgement.the-variants.{Dead}
-use Rattle.optimizer.specs.Source.{Levels, Source, levelAt, rulesIn, ruleTables}
+use Rattle.optimizer.specs.Source.{Levels, Source, levelAt, rulesIn, ruleTables, firstIn}
 use Rattle.optimizer.specs.Turn.{QueryTables, queryOf, judgingOf, assumedIn, entryPlaces, wishedIn, settledFrom, inClass, softOrWanted, judgeFull, blamedOf, assumedBy}
 use Rattle.optimizer.specs.State.{freshWork}
 use Rattle.optimizer.specs.Advance.{workQuery}
@@ -67,25 +67,25 @@ module _ {n : ℕ} {t : Places} (d : SoundTrail n t) where
 
 -- ---- the test depends on which soft literals are blamed, however the flags say it
 
-violated-same : (w : List ℤ) (fs gs : List ℕ) (k : ℕ) (v : List ℕ) (a : Violation) (i m : ℕ) → ((j : ℕ) → j < i + m → eqb (getD fs j 0) 1 ≡ eqb (getD gs j 0) 1)
-    → violatedFrom (assumedEntries w fs k) v a i m ≡ violatedFrom (assumedEntries w gs k) v a i m
+violated-same : (f : Set) (w : List ℤ) (fs gs : List ℕ) (k : ℕ) (v : List ℕ) (a : Violation) (i m : ℕ) → ((j : ℕ) → j < i + m → eqb (getD fs j 0) 1 ≡ eqb (getD gs j 0) 1)
+    → violatedFrom (assumedEntries w fs k f) v a i m ≡ violatedFrom (assumedEntries w gs k f) v a i m
 unfolding violatedFrom
-violated-same w fs gs k v a i zero h = refl
-violated-same w fs gs k v a i (suc m) h =
-    rw (h i (omega arith), violated-same w fs gs k v (firstOf a i) (i + 1) m (λ j l. h j (omega arith)), violated-same w fs gs k v a (i + 1) m (λ j l. h j (omega arith)))
+violated-same f w fs gs k v a i zero h = refl
+violated-same f w fs gs k v a i (suc m) h =
+    rw (h i (omega arith), violated-same f w fs gs k v (firstOf a i) (i + 1) m (λ j l. h j (omega arith)), violated-same f w fs gs k v a (i + 1) m (λ j l. h j (omega arith)))
 
-test-same : (g : Rules) (n : ℕ) (w : List ℤ) (fs gs : List ℕ) (k : ℕ) (v : List ℕ) (len : ℕ) → ((j : ℕ) → j < k → eqb (getD fs j 0) 1 ≡ eqb (getD gs j 0) 1)
-    → testOf g n (assumedEntries w fs k) v len ≡ testOf g n (assumedEntries w gs k) v len
+test-same : (f : Set) (g : Rules) (n : ℕ) (w : List ℤ) (fs gs : List ℕ) (k : ℕ) (v : List ℕ) (len : ℕ) → ((j : ℕ) → j < k → eqb (getD fs j 0) 1 ≡ eqb (getD gs j 0) 1)
+    → testOf g n (assumedEntries w fs k f) v len ≡ testOf g n (assumedEntries w gs k f) v len
 unfolding unbroken
-test-same g n w fs gs k v len h = go (scanOf g v)
+test-same f g n w fs gs k v len h = go (scanOf g v)
   where
-    same : violatedOf (assumedEntries w fs k) v ≡ violatedOf (assumedEntries w gs k) v
-    same = violated-same w fs gs k v Unviolated 0 k (λ j l. h j (omega arith))
+    same : violatedOf (assumedEntries w fs k f) v ≡ violatedOf (assumedEntries w gs k f) v
+    same = violated-same f w fs gs k v Unviolated 0 k (λ j l. h j (omega arith))
 
-    go : (y : Found) → testBy n (assumedEntries w fs k) v len y ≡ testBy n (assumedEntries w gs k) v len y
+    go : (y : Found) → testBy n (assumedEntries w fs k f) v len y ≡ testBy n (assumedEntries w gs k f) v len y
     go (Broken r) = refl
-    go (Breaker l) = ap (λ (x : Violation). pick (leb n len) Full (openOr (branchOf w k v n (Breaker l)) x)) same
-    go Clear = ap (λ (x : Violation). pick (leb n len) Full (openOr (branchOf w k v n Clear) x)) same
+    go (Breaker l) = ap (λ (x : Violation). pick (leb n len) Full (openOr (branchOf f w k v n (Breaker l)) x)) same
+    go Clear = ap (λ (x : Violation). pick (leb n len) Full (openOr (branchOf f w k v n Clear) x)) same
 
 map-at : {A : Type 0} (d : A) (f : ℕ → A) (xs : List ℕ) (i : ℕ) → i < length xs → getD (map f xs) i d ≡ f (getD xs i 0)
 map-at d f [] i h = absurd (omega arith)
@@ -190,16 +190,16 @@ module _ (S : Source) (w : Work) (o : OnLevel S w) {b : Blame} (g : GoodBlame (w
       ∙ ap₂ (λ (c : Bool) (U : ℕ → Bool). pick (isStable (S .n) (rulesIn S) found && c) (metOr (firstViolated U (blamedOf b ++ assumedIn (w .tables) (w .stratum)))) (conflict none))
       (costs-same L (w .lowers) found (w .level)) (fun-ext (λ p. judging-level (w .tables) (o .sound .formed) found p))
 
-  test-is : testOf (ruleTables S) (S .n) (assumedBy q b) (t .value) (t .len)
+  test-is : testOf (ruleTables S) (S .n) (assumedBy S q b) (t .value) (t .len)
       ≡ testOf (ruleTables S) (S .n)
-      (assumedEntries (wishesBy (levelOf (w .tables)) (w .stratum)) (flagsBy (blamedOf b) (entriesBy (levelOf (w .tables)) (w .stratum))) (length (wishesBy (levelOf (w .tables)) (w .stratum))))
+      (assumedEntries (wishesBy (levelOf (w .tables)) (w .stratum)) (flagsBy (blamedOf b) (entriesBy (levelOf (w .tables)) (w .stratum))) (length (wishesBy (levelOf (w .tables)) (w .stratum))) (firstIn S))
       (valuesOf (trailOf t)) (length (trailOf t))
   test-is =
-      test-same (ruleTables S) (S .n) (q .wished) (b .flags) (flagsBy (blamedOf b) (q .places)) (length (q .wished)) (t .value) (t .len)
+      test-same (firstIn S) (ruleTables S) (S .n) (q .wished) (b .flags) (flagsBy (blamedOf b) (q .places)) (length (q .wished)) (t .value) (t .len)
       (λ i h. let k : i < length (q .places) = omega (arith, as-many) in g .flags i k ∙ sym (flags-are (blamedOf b) (q .places) i k))
-      ∙ ap₂ (λ (ws : List ℤ) (ps : List ℕ). testOf (ruleTables S) (S .n) (assumedEntries ws (flagsBy (blamedOf b) ps) (length ws)) (t .value) (t .len)) wished-are places-are
+      ∙ ap₂ (λ (ws : List ℤ) (ps : List ℕ). testOf (ruleTables S) (S .n) (assumedEntries ws (flagsBy (blamedOf b) ps) (length ws) (firstIn S)) (t .value) (t .len)) wished-are places-are
       ∙ ap₂ (λ (v : List ℕ) (k : ℕ). testOf (ruleTables S) (S .n)
-      (assumedEntries (wishesBy (levelOf (w .tables)) (w .stratum)) (flagsBy (blamedOf b) (entriesBy (levelOf (w .tables)) (w .stratum))) (length (wishesBy (levelOf (w .tables)) (w .stratum)))) v k)
+      (assumedEntries (wishesBy (levelOf (w .tables)) (w .stratum)) (flagsBy (blamedOf b) (entriesBy (levelOf (w .tables)) (w .stratum))) (length (wishesBy (levelOf (w .tables)) (w .stratum))) (firstIn S)) v k)
       (values-are d) (sym (length-is (S .n) t d))
 
   pub level-test : verdict S q t b ≡ testWork S (workOf L w) (blamedOf b) (trailOf t)
@@ -207,7 +207,7 @@ module _ (S : Source) (w : Work) (o : OnLevel S w) {b : Blame} (g : GoodBlame (w
       ap₂ (λ (j : Verdict) (y : Tested). verdictOf (nameOf q) j y) full-same test-is
       ∙ ap (λ (ps : List ℕ). verdictOf (λ i. getD ps i 0) (setVerdict S (workOf L w) (blamedOf b) found)
       (testOf (ruleTables S) (S .n)
-      (assumedEntries (wishesBy (levelOf (w .tables)) (w .stratum)) (flagsBy (blamedOf b) (entriesBy (levelOf (w .tables)) (w .stratum))) (length (wishesBy (levelOf (w .tables)) (w .stratum))))
+      (assumedEntries (wishesBy (levelOf (w .tables)) (w .stratum)) (flagsBy (blamedOf b) (entriesBy (levelOf (w .tables)) (w .stratum))) (length (wishesBy (levelOf (w .tables)) (w .stratum))) (firstIn S))
       (valuesOf (trailOf t)) (length (trailOf t)))) places-are
 
 -- ---- THE VERDICT OF THE FIRST QUERY
@@ -227,12 +227,12 @@ module _ (S : Source) (b : Blame) (e : blamedOf b ≡ []) (t : Places) (d : Soun
       ∙ judged-same (isStable (S .n) (rulesIn S) seenSet && true) Met
       ∙ ap (λ (x : Bool). pick x wanted (conflict none)) (and-true (isStable (S .n) (rulesIn S) seenSet))
 
-  start-test-is : testOf (ruleTables S) (S .n) (assumedBy (workQuery freshWork) b) (t .value) (t .len)
-      ≡ testOf (ruleTables S) (S .n) (assumedEntries [] [] 0) (valuesOf (trailOf t)) (length (trailOf t))
+  start-test-is : testOf (ruleTables S) (S .n) (assumedBy S (workQuery freshWork) b) (t .value) (t .len)
+      ≡ testOf (ruleTables S) (S .n) (assumedEntries [] [] 0 (firstIn S)) (valuesOf (trailOf t)) (length (trailOf t))
   unfolding queryOf assumedFrom keep
   start-test-is =
-      test-same (ruleTables S) (S .n) [] (b .flags) [] 0 (t .value) (t .len) (λ j h. absurd (omega arith))
-      ∙ ap₂ (λ (v : List ℕ) (k : ℕ). testOf (ruleTables S) (S .n) (assumedEntries [] [] 0) v k) (values-are d) (sym (length-is (S .n) t d))
+      test-same (firstIn S) (ruleTables S) (S .n) [] (b .flags) [] 0 (t .value) (t .len) (λ j h. absurd (omega arith))
+      ∙ ap₂ (λ (v : List ℕ) (k : ℕ). testOf (ruleTables S) (S .n) (assumedEntries [] [] 0 (firstIn S)) v k) (values-are d) (sym (length-is (S .n) t d))
 
   pub start-test : verdict S (workQuery freshWork) t b ≡ testStart S (trailOf t)
   unfolding queryOf assumedFrom keep

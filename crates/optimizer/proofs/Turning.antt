@@ -1,5 +1,5 @@
 -- One step of a query on the tables: what its calls ask, and that it keeps the trail and the blame in order. Assumes nothing.
-use mathlib.Core.Path.{_≡_, refl, sym, ap, ap₂, _∙_, subst}
+use mathlib.Core.Path.{_≡_, refl, sym, ap, ap₂, _∙_, subst, fun-ext}
 use mathlib.Core.Bool.{Bool, true, false, not, _&&_, _||_, true≢false}
 use mathlib.Core.List.{List, [], _∷_, _++_}
 use mathlib.Core.Logic.{_⊎_, inl, inr, _≢_}
@@ -17,7 +17,7 @@ use Rattle.search.specs.Scan.{Rules}
 use Rattle.counting.specs.declared.counters.Index.{Index}
 use Rattle.counting.specs.Counters.{Counters}
 use borrow.Author.Tests.{eq-eqb, ne-eqb, eqb-true, eqb-false}
-use Rattle.asp.specs.Sets.{setOf, pick}
+use Rattle.asp.specs.Sets.{Set, setOf, pick}
 use Rattle.asp.specs.Program.{All}
 use Rattle.asp.specs.Stable.{member}
 use Rattle.search.specs.declared.trail.Places.{Places}
@@ -39,7 +39,7 @@ use Rattle.optimizer.specs.declared.state.Turn.the-variants.{Going, With
 use Rattle.optimizer.specs.declared.state.Judgement.{Judgement}
 use Rattle.optimizer.specs.declared.state.Judgement.the-variants.{Wanted, Dead, Violated}
 use Rattle.optimizer.specs.declared.turn.Turning.{Turning}
-use Rattle.optimizer.specs.Source.{Source, ruleTables}
+use Rattle.optimizer.specs.Source.{Source, ruleTables, firstIn, Tries}
 use Rattle.optimizer.specs.Turn.{QueryTables, queryTables, blameTables, blamedOf, blameEntry, blamePlace, flagged, inClass, softOrWanted, judgeFull, Turned, turned, backed, judgedTurn, turnBy, assumedBy, turnOf, isGoing, Turns, turns, oneMore, goOn, turnsOf}
 use Rattle.optimizer.specs.Ready.{softs, ReadyQuery, GoodBlame, backedTo, turning}
 
@@ -71,6 +71,10 @@ pub all-at : (P : ℕ → Type 0) (ps : List ℕ) → All P ps → (i : ℕ) →
 all-at P [] a i h = absurd (omega arith)
 all-at P (x ∷ ps) a zero h = a .0
 all-at P (x ∷ ps) a (suc i) h = all-at P ps (a .1) i (omega arith)
+
+-- the table and what it says are one set
+first-is : {S : Source} {tried : List ℕ} → Tries S tried → setOf tried ≡ firstIn S
+first-is h = fun-ext (h .tries)
 
 module _ {S : Source} {q : QueryTables} {b : Blame} (r : ReadyQuery S q) (g : GoodBlame q b) where
   -- there is room for one more
@@ -224,8 +228,12 @@ module _ {S : Source} {q : QueryTables} {b : Blame} (r : ReadyQuery S q) (g : Go
       go true z k = soft (firstViolated (violatedAt (q .judging) (setOf v)) (blamedOf b ++ q .assumed)) k refl
       go false z k = let w : _≡_ {A = ℕ} 0 1 = cc in absurd (omega arith)
 
-  pub soft-formed : FormedSoft (S .n) (assumedBy q b)
+  pub soft-formed : FormedSoft (S .n) (assumedBy S q b)
   soft-formed = record { wished-long = omega arith; blamed-long = omega (arith, g .flags-len, r .wished-few); atoms = r .wished-in }
+
+  -- the same with the set that a table says
+  pub soft-formed-by : {tried : List ℕ} → Tries S tried → FormedSoft (S .n) (assumedEntries (q .wished) (b .flags) (length (q .wished)) (setOf tried))
+  soft-formed-by h = subst (λ (f : Set). FormedSoft (S .n) (assumedEntries (q .wished) (b .flags) (length (q .wished)) f)) (sym (first-is h)) soft-formed
 
   -- ---- after a step
 
@@ -255,11 +263,11 @@ module _ {S : Source} {q : QueryTables} {b : Blame} (r : ReadyQuery S q) (g : Go
     judged-blame (Violated p) e = backed-blame (blamePlace (q .places) p b) (place-good p (violated-in (t .value) e))
 
     abbrev x : Tested
-    x = testOf (ruleTables S) (S .n) (assumedBy q b) (t .value) (t .len)
+    x = testOf (ruleTables S) (S .n) (assumedBy S q b) (t .value) (t .len)
 
     pub violated-entry : {i : ℕ} → x ≡ SoftViolated i → i < length (q .places)
     violated-entry {i} e =
-        let z = rw e at (test-says (S .n) (S .pool) (S .rows) (S .rulecount) (r .source .rules) (assumedBy q b) soft-formed t d) in
+        let z = rw e at (test-says (S .n) (S .pool) (S .rows) (S .rulecount) (r .source .rules) (assumedBy S q b) soft-formed t d) in
         omega (arith, z .2, r .places-long)
 
     pub turn-sound : SoundTrail (S .n) (turnOf S q t b .trail)
@@ -270,7 +278,7 @@ module _ {S : Source} {q : QueryTables} {b : Blame} (r : ReadyQuery S q) (g : Go
         go (RuleBroken k) e = backed-sound b
         go (SoftViolated i) e = backed-sound (blameEntry (q .places) i b)
         go Full e = judged-sound (judgeFull S q (blamedOf b) (t .value))
-        go (Open l) e = rw e at (step-sound (S .n) (S .pool) (S .rows) (S .rulecount) (r .source .rules) (assumedBy q b) soft-formed t d)
+        go (Open l) e = rw e at (step-sound (S .n) (S .pool) (S .rows) (S .rulecount) (r .source .rules) (assumedBy S q b) soft-formed t d)
 
     pub turn-blame : GoodBlame q (turnOf S q t b .blame)
     unfolding turnOf
@@ -305,29 +313,33 @@ module _ (S : Source) (q : QueryTables) (t : Places) (b : Blame) where
       → x ≡ judgedTurn q t b (judgeFull S q (blamedOf b) (t .value))
   judged-violated e k f z = rw (← e, k, ← f) z
 
-  tested-is : {x : Tested} {t₁ : Places} → stepped x t₁ ≡ stepOf (ruleTables S) (S .n) (assumedBy q b) t → x ≡ testOf (ruleTables S) (S .n) (assumedBy q b) (t .value) (t .len)
+  pub step-by : {tried : List ℕ} → Tries S tried → {x : Tested} {t₁ : Places}
+      → stepped x t₁ ≡ stepOf (ruleTables S) (S .n) (assumedEntries (q .wished) (b .flags) (length (q .wished)) (setOf tried)) t → stepped x t₁ ≡ stepOf (ruleTables S) (S .n) (assumedBy S q b) t
+  step-by h e = e ∙ ap (λ (f : Set). stepOf (ruleTables S) (S .n) (assumedEntries (q .wished) (b .flags) (length (q .wished)) f) t) (first-is h)
+
+  tested-is : {x : Tested} {t₁ : Places} → stepped x t₁ ≡ stepOf (ruleTables S) (S .n) (assumedBy S q b) t → x ≡ testOf (ruleTables S) (S .n) (assumedBy S q b) (t .value) (t .len)
   tested-is e = ap (λ (s : Stepped). s .tested) e
 
   -- the trail after a step that finds y
-  pub moved : {x : Tested} {t₁ : Places} → stepped x t₁ ≡ stepOf (ruleTables S) (S .n) (assumedBy q b) t → (y : Tested) → x ≡ y → t₁ ≡ movedBy y t
+  pub moved : {x : Tested} {t₁ : Places} → stepped x t₁ ≡ stepOf (ruleTables S) (S .n) (assumedBy S q b) t → (y : Tested) → x ≡ y → t₁ ≡ movedBy y t
   moved e y z = ap (λ (s : Stepped). s .trail) e ∙ ap (λ (w : Tested). movedBy w t) (sym (tested-is e) ∙ z)
 
   -- a step is what the test's answer makes of it
-  turn-is : {x : Tested} {t₁ : Places} → stepped x t₁ ≡ stepOf (ruleTables S) (S .n) (assumedBy q b) t → (y : Tested) → x ≡ y → turnBy S q t b y ≡ turnOf S q t b
+  turn-is : {x : Tested} {t₁ : Places} → stepped x t₁ ≡ stepOf (ruleTables S) (S .n) (assumedBy S q b) t → (y : Tested) → x ≡ y → turnBy S q t b y ≡ turnOf S q t b
   unfolding turnOf
   turn-is e y z = ap (turnBy S q t b) (sym z ∙ tested-is e)
 
-  pub turn-broken : {x : Tested} {t₁ : Places} → stepped x t₁ ≡ stepOf (ruleTables S) (S .n) (assumedBy q b) t → {k : ℕ} → x ≡ RuleBroken k → {y : Turned} → y ≡ backed t₁ b → y ≡ turnOf S q t b
+  pub turn-broken : {x : Tested} {t₁ : Places} → stepped x t₁ ≡ stepOf (ruleTables S) (S .n) (assumedBy S q b) t → {k : ℕ} → x ≡ RuleBroken k → {y : Turned} → y ≡ backed t₁ b → y ≡ turnOf S q t b
   turn-broken e {k} z f = f ∙ ap (λ (s : Places). backed s b) (moved e (RuleBroken k) z) ∙ turn-is e (RuleBroken k) z
 
-  pub turn-violated : {x : Tested} {t₁ : Places} → stepped x t₁ ≡ stepOf (ruleTables S) (S .n) (assumedBy q b) t → {i : ℕ} → x ≡ SoftViolated i → {b₁ : Blame} → b₁ ≡ blameEntry (q .places) i b
+  pub turn-violated : {x : Tested} {t₁ : Places} → stepped x t₁ ≡ stepOf (ruleTables S) (S .n) (assumedBy S q b) t → {i : ℕ} → x ≡ SoftViolated i → {b₁ : Blame} → b₁ ≡ blameEntry (q .places) i b
       → {y : Turned} → y ≡ backed t₁ b₁ → y ≡ turnOf S q t b
   turn-violated e {i} z g f = f ∙ ap₂ backed (moved e (SoftViolated i) z) g ∙ turn-is e (SoftViolated i) z
 
-  pub turn-open : {x : Tested} {t₁ : Places} → stepped x t₁ ≡ stepOf (ruleTables S) (S .n) (assumedBy q b) t → {l : ℤ} → x ≡ Open l → turned Going t₁ b ≡ turnOf S q t b
+  pub turn-open : {x : Tested} {t₁ : Places} → stepped x t₁ ≡ stepOf (ruleTables S) (S .n) (assumedBy S q b) t → {l : ℤ} → x ≡ Open l → turned Going t₁ b ≡ turnOf S q t b
   turn-open e {l} z = ap (λ (s : Places). turned Going s b) (moved e (Open l) z) ∙ turn-is e (Open l) z
 
-  pub turn-full : {x : Tested} {t₁ : Places} → stepped x t₁ ≡ stepOf (ruleTables S) (S .n) (assumedBy q b) t → x ≡ Full → {y : Turned} → y ≡ judgedTurn q t₁ b (judgeFull S q (blamedOf b) (t₁ .value)) → y ≡ turnOf S q t b
+  pub turn-full : {x : Tested} {t₁ : Places} → stepped x t₁ ≡ stepOf (ruleTables S) (S .n) (assumedBy S q b) t → x ≡ Full → {y : Turned} → y ≡ judgedTurn q t₁ b (judgeFull S q (blamedOf b) (t₁ .value)) → y ≡ turnOf S q t b
   turn-full e z f = f ∙ ap (λ (s : Places). judgedTurn q s b (judgeFull S q (blamedOf b) (s .value))) (moved e Full z) ∙ turn-is e Full z
 
 -- ---- steps in a loop

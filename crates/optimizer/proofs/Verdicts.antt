@@ -63,7 +63,7 @@ nameOf q i = getD (q .places) i 0
 -- the verdict on the trail
 abbrev pub verdict : Source → QueryTables → Places → Blame → Verdict
 verdict S q t b =
-    verdictOf (nameOf q) (verdictBy (judgeFull S q (blamedOf b) (t .value))) (testOf (ruleTables S) (S .n) (assumedBy q b) (t .value) (t .len))
+    verdictOf (nameOf q) (verdictBy (judgeFull S q (blamedOf b) (t .value))) (testOf (ruleTables S) (S .n) (assumedBy S q b) (t .value) (t .len))
 
 -- ---- what is blamed, as a list
 
@@ -94,7 +94,7 @@ module _ {S : Source} {q : QueryTables} {b : Blame} (r : ReadyQuery S q) (g : Go
     u = trailOf t
 
     abbrev tested : Tested
-    tested = testOf (ruleTables S) (S .n) (assumedBy q b) (t .value) (t .len)
+    tested = testOf (ruleTables S) (S .n) (assumedBy S q b) (t .value) (t .len)
 
     backed-seen : (c : Blame) → seen (backed (backOf t) c) ≡ backState (backOf t) (blamedOf c)
     backed-seen c = elim (eqb (backOf t .len) 0) as (λ x. seen (pick x (turned Without (backOf t) c) (turned Going (backOf t) c)) ≡ pick x (machine.without (blamedOf c)) (machine.running (trailOf (backOf t)) (blamedOf c))) [ true ↦ refl | false ↦ refl ]
@@ -115,7 +115,7 @@ module _ {S : Source} {q : QueryTables} {b : Blame} (r : ReadyQuery S q) (g : Go
         go (RuleBroken k) e = cut-seen b none refl
         go Full e = judged-seen (judgeFull S q (blamedOf b) (t .value)) refl
         go (SoftViolated i) e = cut-seen (blameEntry (q .places) i b) (some (nameOf q i)) (entry-blamed i (violated-entry r g t d e))
-        go (Open l) e = push-advances (S .n) t d l (blamedOf b) (open-short (S .n) (S .pool) (S .rows) (S .rulecount) (r .source .rules) (assumedBy q b) (soft-formed r g) t d l e)
+        go (Open l) e = push-advances (S .n) t d l (blamedOf b) (open-short (S .n) (S .pool) (S .rows) (S .rulecount) (r .source .rules) (assumedBy S q b) (soft-formed r g) t d l e)
 
 -- ---- what the verdict says, for the class of sets that a query is about
 
@@ -147,7 +147,7 @@ module _ {S : Source} {q : QueryTables} (r : ReadyQuery S q) {Class : Set → Ty
 
   module _ {b : Blame} (g : GoodBlame q b) (a : All Assumes (blamedOf b)) (t : Places) (d : SoundTrail (S .n) t) where
     abbrev X : Tested
-    X = testOf (ruleTables S) (S .n) (assumedBy q b) (t .value) (t .len)
+    X = testOf (ruleTables S) (S .n) (assumedBy S q b) (t .value) (t .len)
 
     abbrev found : Set
     found = trailSet (trailOf t)
@@ -165,7 +165,7 @@ module _ {S : Source} {q : QueryTables} (r : ReadyQuery S q) {Class : Set → Ty
     full-says e = subst (λ (M : Set). search.Says problemOf (trailOf t) (verdictBy (pick (inClass S (q .level) (q .lowers) M) (softOrWanted (firstViolated (violatedAt (q .judging) M) list)) Dead))) (sym set-same) (go (inClass S (q .level) (q .lowers) found) refl)
       where
         full : HoldsAll (S .n) (trailOf t)
-        full = let z = rw e at (test-says (S .n) (S .pool) (S .rows) (S .rulecount) (r .source .rules) (assumedBy q b) (soft-formed r g) t d) in z .0
+        full = let z = rw e at (test-says (S .n) (S .pool) (S .rows) (S .rulecount) (r .source .rules) (assumedBy S q b) (soft-formed r g) t d) in z .0
 
         dead : (Goal : Set → Type 0) → ((M : Set) → Goal M → Only (S .n) M) → (¬ Goal found) → search.Dead Goal (trailOf t)
         dead = full-dead (S .n) (trailOf t) (d .formed) full
@@ -184,7 +184,7 @@ module _ {S : Source} {q : QueryTables} (r : ReadyQuery S q) {Class : Set → Ty
     -- THE VERDICT IS RIGHT
     pub verdict-says : search.Says problemOf (trailOf t) (verdict S q t b)
     verdict-says =
-        test-right (S .n) (S .pool) (S .rows) (S .rulecount) (r .source .rules) (assumedBy q b) (soft-formed r g) t d Class Assumes Meets (nameOf q) (f .unbroken) (f .entries) (f .wishes)
+        test-right (S .n) (S .pool) (S .rows) (S .rulecount) (r .source .rules) (assumedBy S q b) (soft-formed r g) t d Class Assumes Meets (nameOf q) (f .unbroken) (f .entries) (f .wishes)
         (verdictBy (judgeFull S q (blamedOf b) (t .value))) full-says
 
     -- so a turn keeps the invariant of the search

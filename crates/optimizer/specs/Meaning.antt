@@ -30,7 +30,7 @@ use Rattle.optimizer.specs.declared.state.Phase.{Phase}
 use Rattle.optimizer.specs.declared.state.Phase.the-variants.{First, Level, Optimum, Incoherent, Full}
 use Rattle.optimizer.specs.declared.state.Work.{Work}
 use Rattle.optimizer.specs.declared.state.Search.{Search}
-use Rattle.optimizer.specs.Source.{Levels, Source, many, levelAt, rulesIn, ruleTables}
+use Rattle.optimizer.specs.Source.{Levels, Source, many, levelAt, rulesIn, ruleTables, firstIn}
 use Rattle.optimizer.specs.Turn.{blamedOf}
 
 -- ---- the levels before place j and their settled costs, newest first
@@ -120,12 +120,12 @@ abbrev pub testWork : Source → abstract.Work → List ℕ → Trail → Verdic
 testWork S w ms t =
     verdictOf (λ i. getD (entriesBy (w .tables) (w .stratum)) i 0) (setVerdict S w ms (trailSet t))
     (testOf (ruleTables S) (S .n)
-    (assumedEntries (wishesBy (w .tables) (w .stratum)) (flagsBy ms (entriesBy (w .tables) (w .stratum))) (length (wishesBy (w .tables) (w .stratum)))) (valuesOf t) (length t))
+    (assumedEntries (wishesBy (w .tables) (w .stratum)) (flagsBy ms (entriesBy (w .tables) (w .stratum))) (length (wishesBy (w .tables) (w .stratum))) (firstIn S)) (valuesOf t) (length t))
 
 -- the first query: no settled level, and nothing is assumed
 abbrev pub testStart : Source → Trail → Verdict
 testStart S t =
-    verdictOf (λ i. 0) (pick (isStable (S .n) (rulesIn S) (trailSet t)) wanted (conflict none)) (testOf (ruleTables S) (S .n) (assumedEntries [] [] 0) (valuesOf t) (length t))
+    verdictOf (λ i. 0) (pick (isStable (S .n) (rulesIn S) (trailSet t)) wanted (conflict none)) (testOf (ruleTables S) (S .n) (assumedEntries [] [] 0 (firstIn S)) (valuesOf t) (length t))
 
 abbrev pub testsOf : Source → Tests
 testsOf S = record { testFirst = testStart S; test = testWork S }

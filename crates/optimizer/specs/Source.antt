@@ -1,14 +1,19 @@
 -- The tables of a program that an optimization reads, and what they say. Assumes nothing: these are definitions.
+use mathlib.Core.Path.{_≡_}
 use mathlib.Core.List.{List}
 use Prim.Native.Nat.{ℕ, _≤_}
 use lib.IntN.{ℤ, pos}
 use lib.ListN.{length, getD}
+use Rattle.asp.specs.Sets.{Set, setOf}
 use Rattle.asp.specs.Program.{Rule, Entry, All, LiteralIn}
 use Rattle.asp.specs.Cost.{level}
 use Rattle.asp.specs.Tables.{span, rulesOf, entriesOf, Formed}
 use Rattle.asp.specs.Paying.{EntriesFormed}
 use Rattle.search.specs.Scan.{Rules, rules}
+use Rattle.search.specs.First.{triedFirst}
+use Rattle.counting.specs.declared.counters.Index.{Index}
 use Rattle.indexing.specs.Sorting.{Readied}
+use Rattle.indexing.specs.Leaf.{Indexes}
 
 -- the priorities of the levels, highest first, and the entries
 pub record Levels : Type 0 where
@@ -51,6 +56,19 @@ rulesIn S = rulesOf (S .pool) (S .rows) (S .rulecount)
 
 abbrev pub ruleTables : Source → Rules
 ruleTables S = rules (S .pool) (S .rows) (S .rulecount)
+
+-- the atoms that a free branch tries in first
+abbrev pub firstIn : Source → Set
+firstIn S = triedFirst (rulesIn S) (entriesIn (S .levels))
+
+-- a table of them
+pub record Tries (S : Source) (tried : List ℕ) : Type 0 where
+  pub tries : (a : ℕ) → setOf tried a ≡ firstIn S a
+
+-- what is made once for a program, at its load: the lists of its rules, and that table
+pub record Prepared (S : Source) (o h : Index) (tried : List ℕ) : Type 0 where
+  pub lists : Indexes (ruleTables S) o h
+  pub table : Tries S tried
 
 -- the tables are well formed: asp's conditions, and document 01's limits as far as the code needs them
 pub record FormedLevels (L : Levels) : Type 0 where

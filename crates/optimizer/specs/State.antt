@@ -13,6 +13,8 @@ use Rattle.optimizer.specs.declared.state.Phase.the-variants.{First, Lev
 use Rattle.optimizer.specs.declared.state.Blame.{Blame}
 use Rattle.optimizer.specs.declared.state.Work.{Work}
 use Rattle.optimizer.specs.declared.state.Search.{Search}
+use Rattle.indexing.specs.Leaf.{noIndex}
+use Rattle.optimizer.specs.declared.prepare.Preparation.{Preparation}
 use Rattle.optimizer.specs.Turn.{blameTables}
 
 abbrev pub work : ℕ → LevelTables → ℕ → List ℕ → List ℕ → List ℕ → Work
@@ -32,6 +34,10 @@ isRunning Full = false
 
 abbrev pub freshBlame : Blame
 freshBlame = blameTables (replicate 4096 0) (replicate 4096 0) 4096
+
+-- nothing is prepared
+abbrev pub noPreparation : Preparation
+noPreparation = record { conditions = noIndex; heads = noIndex; tried = replicate 1025 0 }
 
 -- a fresh optimization: "The first question has none" of the wishes
 abbrev pub freshWork : Work

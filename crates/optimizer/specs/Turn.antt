@@ -29,7 +29,7 @@ use Rattle.optimizer.specs.declared.state.Turn.{Turn}
 use Rattle.optimizer.specs.declared.state.Turn.the-variants.{Going, Without, Model}
 use Rattle.optimizer.specs.declared.state.Judgement.{Judgement}
 use Rattle.optimizer.specs.declared.state.Judgement.the-variants.{Wanted, Dead, Violated}
-use Rattle.optimizer.specs.Source.{Source, rulesIn, ruleTables, levelAt}
+use Rattle.optimizer.specs.Source.{Source, rulesIn, ruleTables, levelAt, firstIn}
 
 -- ---- what a query reads
 
@@ -138,11 +138,11 @@ turnBy S q t b (SoftViolated i) = backed (backOf t) (blameEntry (q .places) i b)
 turnBy S q t b (Open l) = turned Going (pushOf l t) b
 turnBy S q t b Full = judgedTurn q t b (judgeFull S q (blamedOf b) (t .value))
 
-abbrev pub assumedBy : QueryTables → Blame → AssumedEntries
-assumedBy q b = assumedEntries (q .wished) (b .flags) (length (q .wished))
+abbrev pub assumedBy : Source → QueryTables → Blame → AssumedEntries
+assumedBy S q b = assumedEntries (q .wished) (b .flags) (length (q .wished)) (firstIn S)
 
 unfoldable pub turnOf : Source → QueryTables → Places → Blame → Turned
-turnOf S q t b = turnBy S q t b (testOf (ruleTables S) (S .n) (assumedBy q b) (t .value) (t .len))
+turnOf S q t b = turnBy S q t b (testOf (ruleTables S) (S .n) (assumedBy S q b) (t .value) (t .len))
 
 -- ---- steps until the query ends or k are made
 

@@ -2,6 +2,7 @@
 pub mod blame;
 pub mod finish;
 pub mod judge;
+pub mod prepare;
 pub mod query;
 pub mod run;
 pub mod state;

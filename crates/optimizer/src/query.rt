@@ -11,12 +11,10 @@ ghost use mathlib.Core.Path.{_≡_};
 ghost use Prim.Native.Nat.{ℕ, _≤_, _<_};
 ghost use lib.ListN.{length};
 ghost use Rattle.search.specs.Places.{SoundTrail};
-ghost use Rattle.search.specs.Scan.{rules};
 ghost use Rattle.counting.specs.Counters.{index};
-ghost use Rattle.indexing.specs.Leaf.{Indexes};
 ghost use Rattle.cores.specs.Tables.{SoundTables};
 ghost use Rattle.cores.specs.Judging.{judging};
-ghost use Rattle.optimizer.specs.Source.{levelTables, source};
+ghost use Rattle.optimizer.specs.Source.{levelTables, source, Prepared};
 ghost use Rattle.optimizer.specs.Turn.{queryTables, queryBy, turned, turns, turnsOf};
 ghost use Rattle.optimizer.specs.Advance.{workQuery};
 ghost use Rattle.optimizer.specs.Ready.{ReadyQuery, GoodBlame};
@@ -54,6 +52,7 @@ fn run_lent<'a>(
     lists: &'a [u16],
     headstarts: &'a [u16],
     headlists: &'a [u16],
+    tried: &'a [u8; 1025],
     trail: Places,
     blame: Blame,
     budget: u32,
@@ -61,7 +60,7 @@ fn run_lent<'a>(
     requires { ⌜ ReadyQuery (source n (now pool) (now rows) rulecount (levelTables (now levels) (now priorities) (now literals) (now weights) entrycount)) (queryTables level (now lowers) (now wished) (now spots) (now assumed) (judging (now softs) (now cores) (now indices) (now ends) (now members))) ⌝ }
     requires { ⌜ GoodBlame (queryTables level (now lowers) (now wished) (now spots) (now assumed) (judging (now softs) (now cores) (now indices) (now ends) (now members))) blame ⌝ }
     requires { ⌜ SoundTrail n trail ⌝ }
-    requires { ⌜ Indexes (rules (now pool) (now rows) rulecount) (index (now starts) (now lists)) (index (now headstarts) (now headlists)) ⌝ }
+    requires { ⌜ Prepared (source n (now pool) (now rows) rulecount (levelTables (now levels) (now priorities) (now literals) (now weights) entrycount)) (index (now starts) (now lists)) (index (now headstarts) (now headlists)) (now tried) ⌝ }
     ensures { λ r. ⌜ turns (turned (r .turn) (r .trail) (r .blame)) (r .made) ≡ turnsOf (source n (now (pool .entry)) (now (rows .entry)) rulecount (levelTables (now (levels .entry)) (now (priorities .entry)) (now (literals .entry)) (now (weights .entry)) entrycount)) (queryTables level (now (lowers .entry)) (now (wished .entry)) (now (spots .entry)) (now (assumed .entry)) (judging (now (softs .entry)) (now (cores .entry)) (now (indices .entry)) (now (ends .entry)) (now (members .entry)))) budget trail blame ⌝ }
 {
     let mut lits = trail.lits;
@@ -83,6 +82,7 @@ fn run_lent<'a>(
         entrycount,
         level,
         lowers,
+        tried,
         wished,
         spots,
         assumed,
@@ -150,6 +150,7 @@ fn run_columns<'a>(
     lists: &'a [u16],
     headstarts: &'a [u16],
     headlists: &'a [u16],
+    tried: &'a [u8; 1025],
     trail: Places,
     blame: Blame,
     budget: u32,
@@ -158,7 +159,7 @@ fn run_columns<'a>(
     requires { ⌜ GoodBlame (queryBy level (now lowers) (judging (now softs) (now cores) (now indices) (now ends) (now members)) (now rests) stratum) blame ⌝ }
     requires { ⌜ SoundTrail n trail ⌝ }
     requires { ⌜ (length (now rests) ≤ 4096) × (length (now cores) ≡ length (now softs)) ⌝ }
-    requires { ⌜ Indexes (rules (now pool) (now rows) rulecount) (index (now starts) (now lists)) (index (now headstarts) (now headlists)) ⌝ }
+    requires { ⌜ Prepared (source n (now pool) (now rows) rulecount (levelTables (now levels) (now priorities) (now literals) (now weights) entrycount)) (index (now starts) (now lists)) (index (now headstarts) (now headlists)) (now tried) ⌝ }
     ensures { λ r. ⌜ turns (turned (r .turn) (r .trail) (r .blame)) (r .made) ≡ turnsOf (source n (now (pool .entry)) (now (rows .entry)) rulecount (levelTables (now (levels .entry)) (now (priorities .entry)) (now (literals .entry)) (now (weights .entry)) entrycount)) (queryBy level (now (lowers .entry)) (judging (now (softs .entry)) (now (cores .entry)) (now (indices .entry)) (now (ends .entry)) (now (members .entry))) (now (rests .entry)) stratum) budget trail blame ⌝ }
 {
     let mut assumed = [0u16; 4096];
@@ -190,6 +191,7 @@ fn run_columns<'a>(
         lists,
         headstarts,
         headlists,
+        tried,
         trail,
         blame,
         budget,
@@ -211,6 +213,7 @@ pub fn run_query<'a>(
     lists: &'a [u16],
     headstarts: &'a [u16],
     headlists: &'a [u16],
+    tried: &'a [u8; 1025],
     w: Work,
     trail: Places,
     blame: Blame,
@@ -220,7 +223,7 @@ pub fn run_query<'a>(
     requires { ⌜ GoodBlame (workQuery w) blame ⌝ }
     requires { ⌜ SoundTrail n trail ⌝ }
     requires { ⌜ SoundTables (w .tables) ⌝ }
-    requires { ⌜ Indexes (rules (now pool) (now rows) rulecount) (index (now starts) (now lists)) (index (now headstarts) (now headlists)) ⌝ }
+    requires { ⌜ Prepared (source n (now pool) (now rows) rulecount (levelTables (now levels) (now priorities) (now literals) (now weights) entrycount)) (index (now starts) (now lists)) (index (now headstarts) (now headlists)) (now tried) ⌝ }
     ensures { λ r. ⌜ turns (turned (r .turn) (r .trail) (r .blame)) (r .made) ≡ turnsOf (source n (now (pool .entry)) (now (rows .entry)) rulecount (levelTables (now (levels .entry)) (now (priorities .entry)) (now (literals .entry)) (now (weights .entry)) entrycount)) (workQuery w) budget trail blame ⌝ }
 {
     let mut softs = [0i32; 4096];
@@ -259,6 +262,7 @@ pub fn run_query<'a>(
         lists,
         headstarts,
         headlists,
+        tried,
         trail,
         blame,
         budget,

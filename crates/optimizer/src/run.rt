@@ -12,12 +12,10 @@ ghost use mathlib.Core.Path.{_≡_};
 ghost use Prim.Native.Nat.{ℕ, _≤_, _<_};
 ghost use lib.ListN.{length};
 ghost use Rattle.cores.specs.Tables.{FormedTables};
-ghost use Rattle.optimizer.specs.Source.{levelTables, source, FormedLevels};
+ghost use Rattle.optimizer.specs.Source.{levelTables, source, FormedLevels, Prepared};
 ghost use Rattle.optimizer.specs.Turn.{turned, blamedOf};
 ghost use Rattle.search.specs.Places.{freshPlaces};
-ghost use Rattle.search.specs.Scan.{rules};
 ghost use Rattle.counting.specs.Counters.{index};
-ghost use Rattle.indexing.specs.Leaf.{Indexes};
 ghost use Rattle.optimizer.specs.State.{freshBlame, isRunning, freshSearch};
 ghost use Rattle.optimizer.specs.Finish.{finishOf};
 ghost use Rattle.optimizer.specs.Advance.{endedQuery, afterTurns, advanceOf};
@@ -163,11 +161,12 @@ pub fn run_steps<'a>(
     lists: &'a [u16],
     headstarts: &'a [u16],
     headlists: &'a [u16],
+    tried: &'a [u8; 1025],
     s: Search,
     budget: u32,
 ) -> Advanced
     requires { ⌜ ReadyRun (source n (now pool) (now rows) rulecount (levelTables (now levels) (now priorities) (now literals) (now weights) entrycount)) budget s ⌝ }
-    requires { ⌜ Indexes (rules (now pool) (now rows) rulecount) (index (now starts) (now lists)) (index (now headstarts) (now headlists)) ⌝ }
+    requires { ⌜ Prepared (source n (now pool) (now rows) rulecount (levelTables (now levels) (now priorities) (now literals) (now weights) entrycount)) (index (now starts) (now lists)) (index (now headstarts) (now headlists)) (now tried) ⌝ }
     ensures { λ r. ⌜ afterRun (r .search) (r .made) ≡ queryRun (source n (now (pool .entry)) (now (rows .entry)) rulecount (levelTables (now (levels .entry)) (now (priorities .entry)) (now (literals .entry)) (now (weights .entry)) entrycount)) budget s ⌝ }
 {
     let w = s.work;
@@ -187,6 +186,7 @@ pub fn run_steps<'a>(
         lists,
         headstarts,
         headlists,
+        tried,
         w,
         trail,
         blame,
@@ -239,11 +239,12 @@ pub fn run<'a>(
     lists: &'a [u16],
     headstarts: &'a [u16],
     headlists: &'a [u16],
+    tried: &'a [u8; 1025],
     start: Search,
     budget: u32,
 ) -> Advanced
     requires { ⌜ Reached (source n (now pool) (now rows) rulecount (levelTables (now levels) (now priorities) (now literals) (now weights) entrycount)) start ⌝ }
-    requires { ⌜ Indexes (rules (now pool) (now rows) rulecount) (index (now starts) (now lists)) (index (now headstarts) (now headlists)) ⌝ }
+    requires { ⌜ Prepared (source n (now pool) (now rows) rulecount (levelTables (now levels) (now priorities) (now literals) (now weights) entrycount)) (index (now starts) (now lists)) (index (now headstarts) (now headlists)) (now tried) ⌝ }
     ensures { λ r. ⌜ afterRun (r .search) (r .made) ≡ runOf (source n (now (pool .entry)) (now (rows .entry)) rulecount (levelTables (now (levels .entry)) (now (priorities .entry)) (now (literals .entry)) (now (weights .entry)) entrycount)) budget start ⌝ }
 {
     let mut s = start;
@@ -270,6 +271,7 @@ pub fn run<'a>(
             lists,
             headstarts,
             headlists,
+            tried,
             s,
             budget - made,
         );
@@ -297,10 +299,11 @@ pub fn advance<'a>(
     lists: &'a [u16],
     headstarts: &'a [u16],
     headlists: &'a [u16],
+    tried: &'a [u8; 1025],
     s: Search,
 ) -> Search
     requires { ⌜ Reached (source n (now pool) (now rows) rulecount (levelTables (now levels) (now priorities) (now literals) (now weights) entrycount)) s ⌝ }
-    requires { ⌜ Indexes (rules (now pool) (now rows) rulecount) (index (now starts) (now lists)) (index (now headstarts) (now headlists)) ⌝ }
+    requires { ⌜ Prepared (source n (now pool) (now rows) rulecount (levelTables (now levels) (now priorities) (now literals) (now weights) entrycount)) (index (now starts) (now lists)) (index (now headstarts) (now headlists)) (now tried) ⌝ }
     ensures { λ r. ⌜ r ≡ advanceOf (source n (now (pool .entry)) (now (rows .entry)) rulecount (levelTables (now (levels .entry)) (now (priorities .entry)) (now (literals .entry)) (now (weights .entry)) entrycount)) s ⌝ }
 {
     let phase = s.phase;
@@ -321,6 +324,7 @@ pub fn advance<'a>(
         lists,
         headstarts,
         headlists,
+        tried,
         s,
         1,
     );

@@ -14,7 +14,7 @@ ghost use Rattle.search.specs.Scan.{rules};
 ghost use Rattle.counting.specs.Counters.{index, counters};
 ghost use Rattle.indexing.specs.Leaf.{Leaf, Equipped};
 ghost use Rattle.cores.specs.Judging.{judging};
-ghost use Rattle.optimizer.specs.Source.{levelTables, source};
+ghost use Rattle.optimizer.specs.Source.{levelTables, source, Tries};
 ghost use Rattle.optimizer.specs.Turn.{queryTables, blameTables, turned, turnOf, turns, turnsOf, judgedTurn, judgeFull, blamedOf, isGoing};
 ghost use Rattle.optimizer.specs.Ready.{ReadyQuery, GoodBlame, backedTo};
 
@@ -189,6 +189,7 @@ pub fn turn<'a>(
     entrycount: usize,
     level: usize,
     lowers: &'a [u64; 8],
+    tried: &'a [u8; 1025],
     wished: &'a [i32],
     spots: &'a [u16],
     assumed: &'a [u16],
@@ -215,6 +216,7 @@ pub fn turn<'a>(
     requires { ⌜ GoodBlame (queryTables level (now lowers) (now wished) (now spots) (now assumed) (judging (now softs) (now cores) (now indices) (now ends) (now members))) (blameTables (now flags) (now core) from) ⌝ }
     requires { ⌜ SoundTrail n (places (now lits) (now marks) (now value) len) ⌝ }
     requires { ⌜ Equipped (rules (now pool) (now rows) rulecount) (index (now starts) (now lists)) (index (now headstarts) (now headlists)) (now value) (counters (now key) m) ⌝ }
+    requires { ⌜ Tries (source n (now pool) (now rows) rulecount (levelTables (now levels) (now priorities) (now literals) (now weights) entrycount)) (now tried) ⌝ }
     ensures { λ r. ⌜ (turned (r .turning .turn) (places (now (lits .exit)) (now (marks .exit)) (now (value .exit)) (r .turning .len)) (blameTables (now (flags .exit)) (now (core .exit)) (r .turning .from)) ≡ turnOf (source n (now (pool .entry)) (now (rows .entry)) rulecount (levelTables (now (levels .entry)) (now (priorities .entry)) (now (literals .entry)) (now (weights .entry)) entrycount)) (queryTables level (now (lowers .entry)) (now (wished .entry)) (now (spots .entry)) (now (assumed .entry)) (judging (now (softs .entry)) (now (cores .entry)) (now (indices .entry)) (now (ends .entry)) (now (members .entry)))) (places (now (lits .entry)) (now (marks .entry)) (now (value .entry)) len) (blameTables (now (flags .entry)) (now (core .entry)) from)) × Equipped (rules (now (pool .entry)) (now (rows .entry)) rulecount) (index (now (starts .entry)) (now (lists .entry))) (index (now (headstarts .entry)) (now (headlists .entry))) (now (value .exit)) (counters (now (key .exit)) (r .marks)) ⌝ }
 {
     let o = machine::step(
@@ -226,6 +228,7 @@ pub fn turn<'a>(
         headstarts,
         headlists,
         n,
+        tried,
         wished,
         flags,
         wished.len(),
@@ -319,6 +322,7 @@ pub fn turns<'a>(
     entrycount: usize,
     level: usize,
     lowers: &'a [u64; 8],
+    tried: &'a [u8; 1025],
     wished: &'a [i32],
     spots: &'a [u16],
     assumed: &'a [u16],
@@ -346,6 +350,7 @@ pub fn turns<'a>(
     requires { ⌜ GoodBlame (queryTables level (now lowers) (now wished) (now spots) (now assumed) (judging (now softs) (now cores) (now indices) (now ends) (now members))) (blameTables (now flags) (now core) first) ⌝ }
     requires { ⌜ SoundTrail n (places (now lits) (now marks) (now value) start) ⌝ }
     requires { ⌜ Equipped (rules (now pool) (now rows) rulecount) (index (now starts) (now lists)) (index (now headstarts) (now headlists)) (now value) (counters (now key) m) ⌝ }
+    requires { ⌜ Tries (source n (now pool) (now rows) rulecount (levelTables (now levels) (now priorities) (now literals) (now weights) entrycount)) (now tried) ⌝ }
     ensures { λ r. ⌜ turns (turned (r .turning .turn) (places (now (lits .exit)) (now (marks .exit)) (now (value .exit)) (r .turning .len)) (blameTables (now (flags .exit)) (now (core .exit)) (r .turning .from))) (r .made) ≡ turnsOf (source n (now (pool .entry)) (now (rows .entry)) rulecount (levelTables (now (levels .entry)) (now (priorities .entry)) (now (literals .entry)) (now (weights .entry)) entrycount)) (queryTables level (now (lowers .entry)) (now (wished .entry)) (now (spots .entry)) (now (assumed .entry)) (judging (now (softs .entry)) (now (cores .entry)) (now (indices .entry)) (now (ends .entry)) (now (members .entry)))) budget (places (now (lits .entry)) (now (marks .entry)) (now (value .entry)) start) (blameTables (now (flags .entry)) (now (core .entry)) first) ⌝ }
 {
     let mut len = start;
@@ -365,6 +370,7 @@ pub fn turns<'a>(
             entrycount,
             level,
             lowers,
+            tried,
             wished,
             spots,
             assumed,

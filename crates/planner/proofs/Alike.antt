@@ -14,7 +14,7 @@ use Rattle.optimizer.specs.declared.state.Search.{Search}
 use Rattle.optimizer.specs.Source.{FormedSource}
 use Rattle.optimizer.specs.Facts.{hasModel, bestIn}
 use Rattle.optimizer.proofs.Alike.{SameSource, advance-same, advances-same, made-same}
-use Rattle.indexing.specs.declared.build.Occurrences.{Occurrences}
+use Rattle.optimizer.specs.declared.prepare.Preparation.{Preparation}
 use Rattle.planner.specs.declared.service.Service.{Service}
 use Rattle.planner.specs.Held.{service, sourceOf, statusOf}
 use Rattle.planner.specs.Calls.{Says, gives, Loads, Outcome, outcome, Fills, fills, Filling, countOf, seen, given, filled, unfilled, filledWith, modelBytes, FreshWith, AfterLoad, advanceCall, runCall, levelSeen, stratumSeen, lookCall, writeCall, modelCall, nameCall, shownSays, shownCall}
@@ -27,28 +27,28 @@ use Rattle.planner.proofs.Together.{name-after}
 
 -- ---- alike, by what is loaded
 
-empty-alike : (p p′ : Stored) (ix ix′ : Occurrences) (q q′ : Search) → Alike (service false p ix q) (service false p′ ix′ q′)
+empty-alike : (p p′ : Stored) (ix ix′ : Preparation) (q q′ : Search) → Alike (service false p ix q) (service false p′ ix′ q′)
 empty-alike p p′ ix ix′ q q′ = record { loaded = refl; held = λ e. absurd (true≢false (sym e)) }
 
 alike-same : {s u s′ u′ : Service} → s′ ≡ s → u′ ≡ u → Alike s u → Alike s′ u′
 alike-same {s} {u} {s′} {u′} e d h = subst (λ (x : Service). Alike x u′) (sym e) (subst (Alike s) (sym d) h)
 
 -- what holds of both with one optimization, and where nothing is loaded, holds of all that are alike
-by-loaded : (P : Service → Service → Type 0) → ((p p′ : Stored) (ix ix′ : Occurrences) (q : Search) → SameHeld (service true p ix q) (service true p′ ix′ q) → P (service true p ix q) (service true p′ ix′ q))
-    → ((p p′ : Stored) (ix ix′ : Occurrences) (q q′ : Search) → P (service false p ix q) (service false p′ ix′ q′)) → (s u : Service) → Alike s u → P s u
+by-loaded : (P : Service → Service → Type 0) → ((p p′ : Stored) (ix ix′ : Preparation) (q : Search) → SameHeld (service true p ix q) (service true p′ ix′ q) → P (service true p ix q) (service true p′ ix′ q))
+    → ((p p′ : Stored) (ix ix′ : Preparation) (q q′ : Search) → P (service false p ix q) (service false p′ ix′ q′)) → (s u : Service) → Alike s u → P s u
 by-loaded P f g s u h = go (s .loaded) refl
   where
     go : (b : Bool) → s .loaded ≡ b → P s u
     go true e =
-        let x : service true (s .stored) (s .lists) (s .search) ≡ s = ap (λ (l : Bool). service l (s .stored) (s .lists) (s .search)) (sym e) in
-        let y : service true (u .stored) (u .lists) (s .search) ≡ u = ap₂ (λ (l : Bool) (q : Search). service l (u .stored) (u .lists) q) (sym e ∙ h .loaded) (h .held e .search) in
-        let k : SameHeld (service true (s .stored) (s .lists) (s .search)) (service true (u .stored) (u .lists) (s .search)) =
+        let x : service true (s .stored) (s .prepared) (s .search) ≡ s = ap (λ (l : Bool). service l (s .stored) (s .prepared) (s .search)) (sym e) in
+        let y : service true (u .stored) (u .prepared) (s .search) ≡ u = ap₂ (λ (l : Bool) (q : Search). service l (u .stored) (u .prepared) q) (sym e ∙ h .loaded) (h .held e .search) in
+        let k : SameHeld (service true (s .stored) (s .prepared) (s .search)) (service true (u .stored) (u .prepared) (s .search)) =
         record { here = h .held e .here; there = h .held e .there; program = h .held e .program; text = h .held e .text; search = refl } in
-        subst (λ (z : Service). P z u) x (subst (P (service true (s .stored) (s .lists) (s .search))) y (f (s .stored) (u .stored) (s .lists) (u .lists) (s .search) k))
+        subst (λ (z : Service). P z u) x (subst (P (service true (s .stored) (s .prepared) (s .search))) y (f (s .stored) (u .stored) (s .prepared) (u .prepared) (s .search) k))
     go false e =
-        let x : service false (s .stored) (s .lists) (s .search) ≡ s = ap (λ (l : Bool). service l (s .stored) (s .lists) (s .search)) (sym e) in
-        let y : service false (u .stored) (u .lists) (u .search) ≡ u = ap (λ (l : Bool). service l (u .stored) (u .lists) (u .search)) (sym e ∙ h .loaded) in
-        subst (λ (z : Service). P z u) x (subst (P (service false (s .stored) (s .lists) (s .search))) y (g (s .stored) (u .stored) (s .lists) (u .lists) (s .search) (u .search)))
+        let x : service false (s .stored) (s .prepared) (s .search) ≡ s = ap (λ (l : Bool). service l (s .stored) (s .prepared) (s .search)) (sym e) in
+        let y : service false (u .stored) (u .prepared) (u .search) ≡ u = ap (λ (l : Bool). service l (u .stored) (u .prepared) (u .search)) (sym e ∙ h .loaded) in
+        subst (λ (z : Service). P z u) x (subst (P (service false (s .stored) (s .prepared) (s .search))) y (g (s .stored) (u .stored) (s .prepared) (u .prepared) (s .search) (u .search)))
 
 -- ---- calls on services in which a program is loaded
 
@@ -58,7 +58,7 @@ SameOutcome x y = (x .answer ≡ y .answer) × Alike (x .after) (y .after)
 abbrev SameFills : Fills → Fills → Type 0
 SameFills x y = (x .answer ≡ y .answer) × (x .bytes ≡ y .bytes) × Alike (x .after) (y .after)
 
-module _ (p p′ : Stored) (ix ix′ : Occurrences) (q : Search) (h : SameHeld (service true p ix q) (service true p′ ix′ q)) where
+module _ (p p′ : Stored) (ix ix′ : Preparation) (q : Search) (h : SameHeld (service true p ix q) (service true p′ ix′ q)) where
   abbrev s : Service
   s = service true p ix q
 

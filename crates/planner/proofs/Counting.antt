@@ -16,7 +16,7 @@ use Rattle.optimizer.specs.State.{isRunning}
 use Rattle.optimizer.specs.Advance.{advanceOf, advancesOf, madeBy}
 use Rattle.optimizer.specs.Run.{bumpedBy}
 use Rattle.optimizer.proofs.Advancing.{rest-advances, rest-made}
-use Rattle.indexing.specs.declared.build.Occurrences.{Occurrences}
+use Rattle.optimizer.specs.declared.prepare.Preparation.{Preparation}
 use Rattle.planner.specs.declared.service.Status.{Status}
 use Rattle.planner.specs.declared.service.Status.the-variants as status
 use Rattle.planner.specs.Held.{service, sourceOf, statusOf}
@@ -125,7 +125,7 @@ module _ (S : Source) where
       go false e ih = ap (λ (x : Search). isRunning (x .phase)) (rest-advances S (suc b) s e) ∙ e
 
 -- "A run with count k leaves the service as k advance calls in a row would, each made while running"
-pub run-advances : (p : Stored) (ix : Occurrences) (b : ℕ) (q : Search) → Advances (madeBy (sourceOf p) b q) (service true p ix q) (service true p ix (advancesOf (sourceOf p) b q))
+pub run-advances : (p : Stored) (ix : Preparation) (b : ℕ) (q : Search) → Advances (madeBy (sourceOf p) b q) (service true p ix q) (service true p ix (advancesOf (sourceOf p) b q))
 unfolding madeBy advancesOf
 run-advances p ix zero q = refl
 run-advances p ix (suc b) q = go (isRunning (q .phase)) refl (run-advances p ix b (advanceOf (sourceOf p) q))

@@ -25,10 +25,10 @@ use Rattle.optimizer.specs.State.{freshSearch}
 use Rattle.optimizer.specs.Advance.{advancesOf, madeBy}
 use Rattle.optimizer.specs.Facts.{Facts, hasModel, isInWork, lowersIn, uppersIn, bestIn, costsIn}
 use Rattle.optimizer.proofs.Reached.{reached-facts}
-use Rattle.indexing.specs.declared.build.Occurrences.{Occurrences}
+use Rattle.optimizer.specs.declared.prepare.Preparation.{Preparation}
 use Rattle.planner.specs.declared.service.Service.{Service}
 use Rattle.planner.specs.declared.service.Status.the-variants as status
-use Rattle.planner.specs.Held.{freshService, sourceOf, ListsOf, statusOf}
+use Rattle.planner.specs.Held.{freshService, sourceOf, PreparedFor, statusOf}
 use Rattle.planner.specs.Sound.{Sound}
 use Rattle.planner.specs.Calls.{gives, Loads, outcome, fills, filled, unfilled, given, levelSeen, byteOf, modelBytes, modelCall, AfterLoad}
 use Rattle.planner.specs.Tally.{load, Does, Tally, tally, begin}
@@ -48,7 +48,7 @@ exactly s n t b e f =
 
 -- ---- the claim, of the tables p after k advances
 
-module _ (t : List ℕ) (p : Stored) (w : WellFormed p) (ix : Occurrences) (k : ℕ) where
+module _ (t : List ℕ) (p : Stored) (w : WellFormed p) (ix : Preparation) (k : ℕ) where
   abbrev S : Source
   S = sourceOf p
 
@@ -199,8 +199,8 @@ module _ (t : List ℕ) (p : Stored) (w : WellFormed p) (ix : Occurrences) (k : 
         bounds-meet = meet-of;
       }
 
-  sound-of : ListsOf p ix → Sound s
-  sound-of o = record { formed = λ h. w; listed = λ h. o; reached = λ h. record { source = formed-source p w; made = k; is = refl } }
+  sound-of : PreparedFor p ix → Sound s
+  sound-of o = record { formed = λ h. w; prepared = λ h. o; reached = λ h. record { source = formed-source p w; made = k; is = refl } }
 
 -- ---- a load leaves what it could have left of a fresh service
 
@@ -210,7 +210,7 @@ fresh-of s t P w e a u d = subst (λ (x : Answer). AfterLoad x freshService (out
 -- ---- DEMAND 3
 
 sound-fresh : Sound freshService
-sound-fresh = record { formed = λ h. absurd (true≢false (sym h)); listed = λ h. absurd (true≢false (sym h)); reached = λ h. absurd (true≢false (sym h)) }
+sound-fresh = record { formed = λ h. absurd (true≢false (sym h)); prepared = λ h. absurd (true≢false (sym h)); reached = λ h. absurd (true≢false (sym h)) }
 
 demand-idle : Demand freshService begin
 demand-idle = record { sound = sound-fresh; claim = record { loaded = refl; tally = refl; look = refl }; fresh = fresh-of freshService }
@@ -218,7 +218,7 @@ demand-idle = record { sound = sound-fresh; claim = record { loaded = refl; tall
 demand-now : (t : List ℕ) {s : Service} {T : Tally} → Now t s T → Demand s T
 demand-now t {s} {T} n =
     let p = n .stored in
-    let ix = n .index in
+    let ix = n .preparation in
     let k = n .steps in
     let w = n .tables .formed in
     let c : Claim (n .program) (n .written) (steppedTo p ix k) (toldAs t p k) =
@@ -226,7 +226,7 @@ demand-now t {s} {T} n =
     (subst (λ (x : List ℕ). Claim (storedProgram p) x (steppedTo p ix k) (toldAs t p k)) (n .tables .text) (claim-of t p w ix k)) in
     let d : Demand (steppedTo p ix k) (toldAs t p k) =
     record {
-      sound = sound-of t p w ix k (n .lists);
+      sound = sound-of t p w ix k (n .prepared);
       claim = record { program = n .program; written = n .written; is = n .is; claim = c };
       fresh = fresh-of (steppedTo p ix k);
     } in

@@ -7,8 +7,8 @@ use Rattle.aspif.specs.declared.table.Counts.{Counts}
 use Rattle.aspif.specs.declared.text.Stored.{Stored}
 use Rattle.optimizer.specs.declared.state.Search.{Search}
 use Rattle.optimizer.specs.State.{freshSearch}
-use Rattle.indexing.specs.declared.build.Occurrences.{Occurrences}
-use Rattle.indexing.specs.Leaf.{noOccurrences}
+use Rattle.optimizer.specs.declared.prepare.Preparation.{Preparation}
+use Rattle.optimizer.specs.State.{noPreparation}
 use Rattle.planner.specs.Held.{service, emptyCounts, emptyStored, freshService}
 
 -- empty tables, with the counts k
@@ -30,5 +30,5 @@ storedWith k =
 pub empty-stored-is : {k : Counts} → k ≡ emptyCounts → storedWith k ≡ emptyStored
 empty-stored-is e = ap storedWith e
 
-pub fresh-is : {p : Stored} → p ≡ emptyStored → {ix : Occurrences} → ix ≡ noOccurrences → {q : Search} → q ≡ freshSearch → service false p ix q ≡ freshService
-fresh-is e d {q} f = ap₂ (λ (p : Stored) (ix : Occurrences). service false p ix q) e d ∙ ap (service false emptyStored noOccurrences) f
+pub fresh-is : {p : Stored} → p ≡ emptyStored → {ix : Preparation} → ix ≡ noPreparation → {q : Search} → q ≡ freshSearch → service false p ix q ≡ freshService
+fresh-is e d {q} f = ap₂ (λ (p : Stored) (ix : Preparation). service false p ix q) e d ∙ ap (service false emptyStored noPreparation) f

@@ -5,9 +5,8 @@ use mathlib.Core.List.{List, [], _∷_}
 use Prim.Native.Nat.{ℕ}
 use Rattle.aspif_lines.specs.Text.{Answer, accepted, refused, textOf}
 use Rattle.aspif.proofs.Witness.{accepted-stored}
-use Rattle.indexing.proofs.Lists.{indexes-exist}
-use Rattle.optimizer.specs.Source.{ruleTables}
 use Rattle.optimizer.specs.State.{freshSearch}
+use Rattle.optimizer.proofs.Preparing.{prepared-exist}
 use Rattle.planner.specs.declared.service.Service.{Service}
 use Rattle.planner.specs.Held.{service, freshService, sourceOf}
 use Rattle.planner.specs.Calls.{Loads, accepts, refusesAt, outcome, filling, AfterLoad, advanceCall, runCall, lookCall, writeCall, modelCall, nameCall, shownCall}
@@ -17,8 +16,8 @@ use Rattle.planner.proofs.Link.{formed-source}
 does-load : (t : List ℕ) (x : Answer) → textOf t ≡ x → (s : Service) → (a : Loads) × (u : Service) × AfterLoad x s (outcome a u)
 does-load t (accepted P w) e s =
     let (p, formed, program, text) = accepted-stored t P w e in
-    let (ix, lists) = indexes-exist (ruleTables (sourceOf p)) (formed-source p formed .readied) in
-    (accepts, service true p ix freshSearch, (refl, record { loaded = refl; tables = record { formed = formed; program = program; text = text }; lists = lists; search = refl }))
+    let (ix, prepared) = prepared-exist (sourceOf p) (formed-source p formed) in
+    (accepts, service true p ix freshSearch, (refl, record { loaded = refl; tables = record { formed = formed; program = program; text = text }; prepared = prepared; search = refl }))
 does-load t (refused c m) e s = (refusesAt c m, s, refl)
 
 does : (c : Call) (s : Service) → (a : Reply c) × (u : Service) × Does c s a u

@@ -21,7 +21,7 @@ use Rattle.planner.proofs.Link.{formed-source}
 use Rattle.planner.proofs.Together.{write-after, model-after, name-after}
 
 pub sound-fresh : {s : Service} → s ≡ freshService → Sound s
-sound-fresh e = subst Sound (sym e) (record { formed = λ h. absurd (true≢false (sym h)); listed = λ h. absurd (true≢false (sym h)); reached = λ h. absurd (true≢false (sym h)) })
+sound-fresh e = subst Sound (sym e) (record { formed = λ h. absurd (true≢false (sym h)); prepared = λ h. absurd (true≢false (sym h)); reached = λ h. absurd (true≢false (sym h)) })
 
 same : {s u : Service} → u ≡ s → Sound s → Sound u
 same e h = subst Sound (sym e) h
@@ -30,7 +30,7 @@ same e h = subst Sound (sym e) h
 
 pub sound-load : (x : Answer) (a : Loads) {s u : Service} → AfterLoad x s (outcome a u) → Sound s → Sound u
 sound-load (accepted P t) a {s} {u} d h =
-    record { formed = λ l. d .1 .tables .formed; listed = λ l. d .1 .lists; reached = λ l. reached-fresh (formed-source (u .stored) (d .1 .tables .formed)) (d .1 .search) }
+    record { formed = λ l. d .1 .tables .formed; prepared = λ l. d .1 .prepared; reached = λ l. reached-fresh (formed-source (u .stored) (d .1 .tables .formed)) (d .1 .search) }
 sound-load (refused c m) a d h = same (ap (λ (x : Outcome Loads). x .after) d) h
 
 -- ---- advance and run
@@ -41,7 +41,7 @@ moved : {A : Type 0} (s : Service) (q : Search) (x : A) (y : A) → Sound s → 
 moved {A} s q x y h f = go (s .loaded) refl
   where
     go : (b : Bool) → s .loaded ≡ b → Sound (pick b (outcome x (movedTo s q)) (outcome y s) .after)
-    go true e = record { formed = λ l. h .formed e; listed = λ l. h .listed e; reached = λ l. f (h .reached e) }
+    go true e = record { formed = λ l. h .formed e; prepared = λ l. h .prepared e; reached = λ l. f (h .reached e) }
     go false e = h
 
 pub sound-advance : {s u : Service} {a : Says Status} → outcome a u ≡ advanceCall s → Sound s → Sound u

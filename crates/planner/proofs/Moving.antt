@@ -13,17 +13,16 @@ use Rattle.aspif.specs.declared.text.Stored.{Stored}
 use Rattle.aspif.specs.declared.text.Loading.{Loading}
 use Rattle.aspif.specs.declared.text.Loading.the-variants.{Accepted, RefusedAt}
 use Rattle.optimizer.specs.declared.state.Search.{Search}
-use Rattle.optimizer.specs.Source.{Source, source, levelTables, many, ruleTables}
-use Rattle.indexing.specs.Sorting.{Readied}
+use Rattle.optimizer.specs.Source.{Source, source, levelTables, many, FormedSource, Prepared}
 use Rattle.optimizer.specs.State.{freshSearch}
 use Rattle.optimizer.specs.Advance.{advanceOf, madeBy}
 use Rattle.optimizer.specs.Run.{AfterRun, afterRun, runOf, Reached}
 use Rattle.optimizer.specs.Facts.{Facts, hasModel, isInWork}
 use Rattle.optimizer.proofs.Reached.{reached-facts}
-use Rattle.indexing.specs.declared.build.Occurrences.{Occurrences}
+use Rattle.optimizer.specs.declared.prepare.Preparation.{Preparation}
 use Rattle.planner.specs.declared.service.Service.{Service}
 use Rattle.planner.specs.declared.service.Status.{Status}
-use Rattle.planner.specs.Held.{service, sourceOf, ListsOf, statusOf}
+use Rattle.planner.specs.Held.{service, sourceOf, PreparedFor, statusOf}
 use Rattle.planner.specs.Calls.{Says, gives, refuses, Outcome, outcome, movedTo, advanced, advanceCall, Count, countOf, ran, made, runCall, accepts, refusesAt, AfterLoad, Seen, seen, given, seenIn, nothingSeen, lookCall, levelSeen, stratumSeen}
 use Rattle.planner.proofs.Answers.{at-true}
 use Rattle.planner.proofs.Link.{formed-source, levels-many, priorities-is}
@@ -40,6 +39,14 @@ levelsUsed p = take (p .counts .levels) (p .levels)
 
 pub reached-by : (p : Stored) (q : Search) (L : List ℤ) → L ≡ levelsUsed p → Reached (sourceOf p) q → Reached (sourceBy p L) q
 reached-by p q L e r = subst (λ (l : List ℤ). Reached (sourceBy p l) q) (sym e) r
+
+-- what is prepared for the tables, by the levels that are lent
+module _ (p : Stored) (x : Preparation) (L : List ℤ) (e : L ≡ levelsUsed p) where
+  pub prepared-by : PreparedFor p x → Prepared (sourceBy p L) (x .conditions) (x .heads) (x .tried)
+  prepared-by h = subst (λ (l : List ℤ). Prepared (sourceBy p l) (x .conditions) (x .heads) (x .tried)) (sym e) h
+
+  pub prepared-for : Prepared (sourceBy p L) (x .conditions) (x .heads) (x .tried) → PreparedFor p x
+  prepared-for h = subst (λ (l : List ℤ). Prepared (sourceBy p l) (x .conditions) (x .heads) (x .tried)) e h
 
 module _ (s : Service) where
   pub advance-empty : s .loaded ≡ false → outcome (refuses 6) s ≡ advanceCall s
@@ -67,15 +74,18 @@ module _ (s : Service) where
 
 -- ---- load
 
--- what an accepted text leaves can be listed
-pub loaded-readied : (p : Stored) {a : Loading} → a ≡ Accepted → StoredAfter p a → Readied (ruleTables (sourceOf p))
-loaded-readied p e f = formed-source p (subst (StoredAfter p) e f) .readied
+-- what an accepted text leaves is well formed, and can be prepared
+pub loaded-well : (p : Stored) {a : Loading} → a ≡ Accepted → StoredAfter p a → WellFormed p
+loaded-well p e f = subst (StoredAfter p) e f
 
-pub load-accepted : (s : Service) (x : Answer) (p : Stored) {a : Loading} → a ≡ Accepted → answerOf p a ≡ x → StoredAfter p a → {ix : Occurrences} → ListsOf p ix → {q : Search} → q ≡ freshSearch
+pub loaded-formed : (p : Stored) {a : Loading} → a ≡ Accepted → StoredAfter p a → (L : List ℤ) → L ≡ levelsUsed p → FormedSource (sourceBy p L)
+loaded-formed p e f L l = subst (λ (x : List ℤ). FormedSource (sourceBy p x)) (sym l) (formed-source p (loaded-well p e f))
+
+pub load-accepted : (s : Service) (x : Answer) (p : Stored) {a : Loading} → a ≡ Accepted → answerOf p a ≡ x → StoredAfter p a → {ix : Preparation} → PreparedFor p ix → {q : Search} → q ≡ freshSearch
     → AfterLoad x s (outcome accepts (service true p ix q))
 load-accepted s x p e t f {ix} o {q} d =
     subst (λ (y : Answer). AfterLoad y s (outcome accepts (service true p ix q))) (ap (answerOf p) (sym e) ∙ t)
-    (refl, record { loaded = refl; tables = record { formed = subst (StoredAfter p) e f; program = refl; text = refl }; lists = o; search = d })
+    (refl, record { loaded = refl; tables = record { formed = loaded-well p e f; program = refl; text = refl }; prepared = o; search = d })
 
 pub load-refused : (s : Service) (x : Answer) (p : Stored) (c m : ℕ) {a : Loading} → a ≡ RefusedAt c m → answerOf p a ≡ x → AfterLoad x s (outcome (refusesAt c m) s)
 load-refused s x p c m e t = subst (λ (y : Answer). AfterLoad y s (outcome (refusesAt c m) s)) (ap (answerOf p) (sym e) ∙ t) refl

@@ -17,7 +17,7 @@ use Rattle.aspif.specs.declared.text.Stored.{Stored}
 use Rattle.cores.proofs.Sums.{below-or}
 use Rattle.optimizer.specs.declared.state.Search.{Search}
 use Rattle.optimizer.specs.Facts.{hasModel, bestIn}
-use Rattle.indexing.specs.declared.build.Occurrences.{Occurrences}
+use Rattle.optimizer.specs.declared.prepare.Preparation.{Preparation}
 use Rattle.planner.specs.declared.service.Service.{Service}
 use Rattle.planner.specs.Held.{service, symbolOf}
 use Rattle.planner.specs.Calls.{Says, gives, refuses, filled, unfilled, nameCall, shownSays}
@@ -44,7 +44,7 @@ abbrev pub orElse : {A : Type 0} → A → Option A → A
 orElse d none = d
 orElse d (some x) = x
 
-module _ (p : Stored) (ix : Occurrences) (q : Search) (i : ℕ) where
+module _ (p : Stored) (ix : Preparation) (q : Search) (i : ℕ) where
   abbrev s : Service
   s = service true p ix q
 

@@ -14,11 +14,11 @@ use Rattle.optimizer.specs.declared.state.Search.{Search}
 use Rattle.optimizer.specs.State.{isRunning, freshSearch}
 use Rattle.optimizer.specs.Advance.{advanceOf, advancesOf, madeBy}
 use Rattle.optimizer.proofs.Advancing.{advances-plus}
-use Rattle.indexing.specs.declared.build.Occurrences.{Occurrences}
+use Rattle.optimizer.specs.declared.prepare.Preparation.{Preparation}
 use Rattle.planner.specs.declared.service.Service.{Service}
 use Rattle.planner.specs.declared.service.Status.{Status}
 use Rattle.planner.specs.declared.service.Status.the-variants as status
-use Rattle.planner.specs.Held.{service, freshService, sourceOf, ListsOf, statusOf}
+use Rattle.planner.specs.Held.{service, freshService, sourceOf, PreparedFor, statusOf}
 use Rattle.planner.specs.Calls.{Says, gives, Loads, Outcome, outcome, Fills, countOf, Count, TablesOf, FreshWith, AfterLoad, advanceCall, runCall, writeCall, modelCall, hasSymbol, nameCall}
 use Rattle.optimizer.specs.Facts.{hasModel}
 use Rattle.planner.specs.Tally.{Call, load, clear, advance, run, look, write, model, name, shown, Reply, Does, Tally, tally, begin, feedLoad, feedAdvance, feedRun, feed, Leads}
@@ -45,7 +45,7 @@ module _ (s : Service) (b : List ℕ) where
 abbrev pub after : Stored → ℕ → Search
 after p k = advancesOf (sourceOf p) k freshSearch
 
-abbrev pub steppedTo : Stored → Occurrences → ℕ → Service
+abbrev pub steppedTo : Stored → Preparation → ℕ → Service
 steppedTo p ix k = service true p ix (after p k)
 
 abbrev pub toldAs : List ℕ → Stored → ℕ → Tally
@@ -58,10 +58,10 @@ pub record Now (t : List ℕ) (s : Service) (T : Tally) : Type 0 where
   pub is : textOf t ≡ accepted program written
   pub stored : Stored
   pub tables : TablesOf program written stored
-  pub index : Occurrences
-  pub lists : ListsOf stored index
+  pub preparation : Preparation
+  pub prepared : PreparedFor stored preparation
   pub steps : ℕ
-  pub service-is : s ≡ steppedTo stored index steps
+  pub service-is : s ≡ steppedTo stored preparation steps
   pub tally-is : T ≡ toldAs t stored steps
 
 abbrev pub Together : Service → Tally → Type 0
@@ -84,10 +84,10 @@ load-kept t s T a u d h = go (textOf t) refl d
           is = e;
           stored = u .stored;
           tables = f .tables;
-          index = u .lists;
-          lists = f .lists;
+          preparation = u .prepared;
+          prepared = f .prepared;
           steps = 0;
-          service-is = ap₂ (λ (l : Bool) (q : Search). service l (u .stored) (u .lists) q) (f .loaded) (f .search);
+          service-is = ap₂ (λ (l : Bool) (q : Search). service l (u .stored) (u .prepared) q) (f .loaded) (f .search);
           tally-is = refl;
         }
 
@@ -126,9 +126,9 @@ module _ (t : List ℕ) (p : Stored) (k : ℕ) where
       (sym (made-plus (sourceOf p) k b freshSearch))
 
 -- after a call on a loaded service that moved it
-moved : (t : List ℕ) {s : Service} {T : Tally} (n : Now t s T) (k : ℕ) {u : Service} {U : Tally} → u ≡ steppedTo (n .stored) (n .index) k → U ≡ toldAs t (n .stored) k → Now t u U
+moved : (t : List ℕ) {s : Service} {T : Tally} (n : Now t s T) (k : ℕ) {u : Service} {U : Tally} → u ≡ steppedTo (n .stored) (n .preparation) k → U ≡ toldAs t (n .stored) k → Now t u U
 moved t n k e f =
-    record { program = n .program; written = n .written; is = n .is; stored = n .stored; tables = n .tables; index = n .index; lists = n .lists; steps = k; service-is = e; tally-is = f }
+    record { program = n .program; written = n .written; is = n .is; stored = n .stored; tables = n .tables; preparation = n .preparation; prepared = n .prepared; steps = k; service-is = e; tally-is = f }
 
 advance-kept : (s : Service) (T : Tally) (a : Says Status) (u : Service) → outcome a u ≡ advanceCall s → Together s T → Together u (feedAdvance a T)
 advance-kept s T a u d (inl (e, f)) =
@@ -138,7 +138,7 @@ advance-kept s T a u d (inr (t, n)) =
     let p = n .stored in
     let k = n .steps in
     let d′ = d ∙ ap advanceCall (n .service-is) in
-    inr (t, moved t n (k + 1) (ap (λ (x : Outcome (Says Status)). x .after) d′ ∙ ap (service true p (n .index)) (advanced-is t p k)) (ap₂ feedAdvance (ap (λ (x : Outcome (Says Status)). x .answer) d′) (n .tally-is) ∙ advance-told t p k))
+    inr (t, moved t n (k + 1) (ap (λ (x : Outcome (Says Status)). x .after) d′ ∙ ap (service true p (n .preparation)) (advanced-is t p k)) (ap₂ feedAdvance (ap (λ (x : Outcome (Says Status)). x .answer) d′) (n .tally-is) ∙ advance-told t p k))
 
 run-kept : (b : ℕ) (s : Service) (T : Tally) (a : Says Count) (u : Service) → outcome a u ≡ runCall s b → Together s T → Together u (feedRun a T)
 run-kept b s T a u d (inl (e, f)) =
@@ -148,7 +148,7 @@ run-kept b s T a u d (inr (t, n)) =
     let p = n .stored in
     let k = n .steps in
     let d′ = d ∙ ap (λ (x : Service). runCall x b) (n .service-is) in
-    inr (t, moved t n (k + b) (ap (λ (x : Outcome (Says Count)). x .after) d′ ∙ ap (service true p (n .index)) (sym (advances-plus (sourceOf p) k b freshSearch))) (ap₂ feedRun (ap (λ (x : Outcome (Says Count)). x .answer) d′) (n .tally-is) ∙ run-told t p k b))
+    inr (t, moved t n (k + b) (ap (λ (x : Outcome (Says Count)). x .after) d′ ∙ ap (service true p (n .preparation)) (sym (advances-plus (sourceOf p) k b freshSearch))) (ap₂ feedRun (ap (λ (x : Outcome (Says Count)). x .answer) d′) (n .tally-is) ∙ run-told t p k b))
 
 -- ---- any call, any list of calls
 

@@ -38,7 +38,7 @@ use Rattle.planner.specs.declared.fill.Fill.{Fill}
 use Rattle.planner.specs.declared.fill.Fill.the-variants as fill
 use Rattle.planner.specs.declared.symbol.Showing.{Showing}
 use Rattle.planner.specs.declared.symbol.Showing.the-variants as showing
-use Rattle.planner.specs.Held.{service, sourceOf, ListsOf, symbolOf, statusOf}
+use Rattle.planner.specs.Held.{service, sourceOf, PreparedFor, symbolOf, statusOf}
 
 -- ---- answers in document 01's numbers and values
 
@@ -77,7 +77,7 @@ pub record TablesOf (P : Program) (t : List ℕ) (p : Stored) : Type 0 where
 pub record FreshWith (P : Program) (t : List ℕ) (s : Service) : Type 0 where
   pub loaded : s .loaded ≡ true
   pub tables : TablesOf P t (s .stored)
-  pub lists : ListsOf (s .stored) (s .lists)
+  pub prepared : PreparedFor (s .stored) (s .prepared)
   pub search : s .search ≡ freshSearch
 
 -- accepted, or the refusal's number and line
@@ -104,7 +104,7 @@ saysAdvance advancing.NotLoaded = refuses 6
 
 -- the service with its optimization at q
 abbrev pub movedTo : Service → Search → Service
-movedTo s q = service true (s .stored) (s .lists) q
+movedTo s q = service true (s .stored) (s .prepared) q
 
 abbrev pub advanced : Service → Search
 advanced s = advanceOf (sourceOf (s .stored)) (s .search)

@@ -10,16 +10,15 @@ use Rattle.aspif.specs.declared.text.Stored.{Stored}
 use Rattle.optimizer.specs.declared.state.Phase.{Phase}
 use Rattle.optimizer.specs.declared.state.Phase.the-variants.{First, Level, Optimum, Incoherent, Full}
 use Rattle.optimizer.specs.declared.state.Search.{Search}
-use Rattle.indexing.specs.declared.build.Occurrences.{Occurrences}
-use Rattle.indexing.specs.Leaf.{Indexes, noOccurrences}
-use Rattle.optimizer.specs.Source.{Source, source, levelTables, ruleTables}
-use Rattle.optimizer.specs.State.{freshSearch}
+use Rattle.optimizer.specs.declared.prepare.Preparation.{Preparation}
+use Rattle.optimizer.specs.Source.{Source, source, levelTables, Prepared}
+use Rattle.optimizer.specs.State.{noPreparation, freshSearch}
 use Rattle.planner.specs.declared.service.Service.{Service}
 use Rattle.planner.specs.declared.service.Status.{Status}
 use Rattle.planner.specs.declared.service.Status.the-variants as status
 
-abbrev pub service : Bool → Stored → Occurrences → Search → Service
-service l p ix q = record { loaded = l; stored = p; lists = ix; search = q }
+abbrev pub service : Bool → Stored → Preparation → Search → Service
+service l p ix q = record { loaded = l; stored = p; prepared = ix; search = q }
 
 -- ---- nothing is loaded
 
@@ -43,7 +42,7 @@ emptyStored =
 
 -- "A fresh service has nothing loaded and status empty."
 abbrev pub freshService : Service
-freshService = service false emptyStored noOccurrences freshSearch
+freshService = service false emptyStored noPreparation freshSearch
 
 -- ---- a program is loaded
 
@@ -53,10 +52,9 @@ sourceOf p =
     source (p .counts .atoms) (p .pool) (p .rules) (p .counts .rules)
     (levelTables (take (p .counts .levels) (p .levels)) (p .priorities) (p .literals) (p .weights) (p .counts .entries))
 
--- the lists are those of the tables: of each literal the rules in which it is a condition, of each atom those with it in the head. They make an advance fast, and no
--- answer depends on how they lie.
-abbrev pub ListsOf : Stored → Occurrences → Type 0
-ListsOf p ix = Indexes (ruleTables (sourceOf p)) (ix .conditions) (ix .heads)
+-- what is made once for the tables: it makes an advance fast, and no answer depends on how it lies
+abbrev pub PreparedFor : Stored → Preparation → Type 0
+PreparedFor p ix = Prepared (sourceOf p) (ix .conditions) (ix .heads) (ix .tried)
 
 -- the symbol at a position
 abbrev pub symbolOf : Stored → ℕ → Symbol

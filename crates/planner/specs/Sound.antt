@@ -4,10 +4,10 @@ use mathlib.Core.Bool.{true}
 use Rattle.aspif.specs.Store.{WellFormed}
 use Rattle.optimizer.specs.Run.{Reached}
 use Rattle.planner.specs.declared.service.Service.{Service}
-use Rattle.planner.specs.Held.{sourceOf, ListsOf}
+use Rattle.planner.specs.Held.{sourceOf, PreparedFor}
 
--- where a program is loaded, its tables are well formed, the lists are theirs, and the optimization is one that advances from a fresh one lead to
+-- where a program is loaded, its tables are well formed, what is prepared is theirs, and the optimization is one that advances from a fresh one lead to
 pub record Sound (s : Service) : Type 0 where
   pub formed : s .loaded ≡ true → WellFormed (s .stored)
-  pub listed : s .loaded ≡ true → ListsOf (s .stored) (s .lists)
+  pub prepared : s .loaded ≡ true → PreparedFor (s .stored) (s .prepared)
   pub reached : s .loaded ≡ true → Reached (sourceOf (s .stored)) (s .search)

@@ -20,7 +20,7 @@ pub struct Advanced {
 }
 
 // The levels in use.
-fn used<'a>(levels: &'a [i32], k: usize) -> &'a [i32]
+pub fn used<'a>(levels: &'a [i32], k: usize) -> &'a [i32]
     requires { ⌜ k ≤ length (now levels) ⌝ }
     ensures { λ r. ⌜ now r ≡ take k (now (levels .entry)) ⌝ }
 {
@@ -42,9 +42,10 @@ pub fn advance(s: Service) -> Advanced
     let q = s.search;
     let c = p.counts;
     let levels = p.levels;
-    let o = s.lists;
-    let by_condition = o.conditions;
-    let by_head = o.heads;
+    let x = s.prepared;
+    let by_condition = x.conditions;
+    let by_head = x.heads;
+    let tried = x.tried;
     let t = optimizer::run::advance(
         c.atoms,
         &p.pool,
@@ -59,6 +60,7 @@ pub fn advance(s: Service) -> Advanced
         &by_condition.rules,
         &by_head.starts,
         &by_head.rules,
+        &tried,
         q,
     );
     let phase = t.phase;
@@ -66,7 +68,7 @@ pub fn advance(s: Service) -> Advanced
     let next = Service {
         loaded: true,
         stored: p,
-        lists: o,
+        prepared: x,
         search: t,
     };
     Advanced {
@@ -101,9 +103,10 @@ pub fn run(s: Service, budget: u32) -> Ran
     let q = s.search;
     let c = p.counts;
     let levels = p.levels;
-    let o = s.lists;
-    let by_condition = o.conditions;
-    let by_head = o.heads;
+    let x = s.prepared;
+    let by_condition = x.conditions;
+    let by_head = x.heads;
+    let tried = x.tried;
     let a = optimizer::run::run(
         c.atoms,
         &p.pool,
@@ -118,6 +121,7 @@ pub fn run(s: Service, budget: u32) -> Ran
         &by_condition.rules,
         &by_head.starts,
         &by_head.rules,
+        &tried,
         q,
         budget,
     );
@@ -127,7 +131,7 @@ pub fn run(s: Service, budget: u32) -> Ran
     let next = Service {
         loaded: true,
         stored: p,
-        lists: o,
+        prepared: x,
         search: t,
     };
     Ran {

@@ -1,4 +1,5 @@
 // Load: a text in place of what was loaded.
+use crate::advance::used;
 use crate::service::Service;
 use aspif::text::Loading;
 ghost use Rattle.aspif_lines.specs.Text.{textOf};
@@ -19,12 +20,23 @@ pub fn load(s: Service, text: &[u8]) -> Loaded
         Loading::Accepted => {
             let p = l.stored;
             let c = p.counts;
-            let o = indexing::build::list_rules(&p.pool, &p.rules, c.rules);
+            let levels = p.levels;
+            let x = optimizer::prepare::prepare(
+                c.atoms,
+                &p.pool,
+                &p.rules,
+                c.rules,
+                used(&levels, c.levels),
+                &p.priorities,
+                &p.literals,
+                &p.weights,
+                c.entries,
+            );
             let q = optimizer::run::fresh();
             let next = Service {
                 loaded: true,
                 stored: p,
-                lists: o,
+                prepared: x,
                 search: q,
             };
             Loaded {

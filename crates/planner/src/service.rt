@@ -1,17 +1,17 @@
 // The service, and an empty one.
 use aspif::Counts;
 use aspif::text::Stored;
-use indexing::build::Occurrences;
+use optimizer::prepare::Preparation;
 use optimizer::state::Phase;
 use optimizer::state::Search;
 ghost use mathlib.Core.Path.{_≡_};
 ghost use Rattle.planner.specs.Held.{emptyCounts, emptyStored, freshService, statusOf};
 
-// A program, if one is loaded, the lists of its rules, and its optimization.
+// A program, if one is loaded, what is prepared for it, and its optimization.
 pub struct Service {
     pub loaded: bool,
     pub stored: Stored,
-    pub lists: Occurrences,
+    pub prepared: Preparation,
     pub search: Search,
 }
 
@@ -76,7 +76,7 @@ pub fn fresh() -> Service
     Service {
         loaded: false,
         stored: empty_stored(),
-        lists: indexing::build::empty(),
+        prepared: optimizer::prepare::none(),
         search: optimizer::run::fresh(),
     }
 }

@@ -8,8 +8,8 @@ use lib.Dec.{eqb}
 use lib.IntN.{ℤ, pos, negℤ, natAbs}
 use lib.ListN.{length, getD}
 use borrow.Author.Tests.{eq-eqb, ne-eqb}
-use Rattle.asp.specs.Sets.{pick}
-use Rattle.search.specs.Branch.{lowestFrom, lowestOf}
+use Rattle.asp.specs.Sets.{setOf, pick}
+use Rattle.search.specs.Branch.{lowestFrom, lowestOf, freeLiteral}
 
 module _ (v : List ℕ) (a n : ℕ) where
   low-here : a < n → getD v a 0 ≡ 0 → lowestFrom v a (n - a) ≡ a
@@ -53,3 +53,11 @@ from-le v a (suc k) = go (eqb (getD v a 0) 0) (from-le v (a + 1) k)
 
 pub lowest-le : (v : List ℕ) (n : ℕ) → 1 ≤ n → lowestOf v n ≤ n
 lowest-le v n h = omega (arith, from-le v 1 (n - 1))
+
+-- ---- the literal that a free branch tries first
+
+pub free-in : (t : List ℕ) (a : ℕ) → getD t a 0 ≡ 1 → pos a ≡ freeLiteral (setOf t) a
+free-in t a h = rw (eq-eqb (getD t a 0) 1 h)
+
+pub free-out : (t : List ℕ) (a : ℕ) → (getD t a 0 ≡ 1 → ⊥) → negℤ (pos a) ≡ freeLiteral (setOf t) a
+free-out t a h = rw (ne-eqb (getD t a 0) 1 h)

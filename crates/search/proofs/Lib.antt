@@ -4,6 +4,7 @@ pub mod ScanLaws
 pub mod SoftLaws
 pub mod NotedLaws
 pub mod BranchLaws
+pub mod FirstLaws
 pub mod StepLaws
 pub mod Counts
 pub mod Spent

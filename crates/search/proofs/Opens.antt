@@ -9,7 +9,7 @@ use lib.Dec.{T, eqb, ltb}
 use lib.IntN.{ℤ, pos, negℤ, natAbs}
 use lib.ListN.{length, getD}
 use borrow.Author.Tests.{eqb-true, eqb-false}
-use Rattle.asp.specs.Sets.{In, pick}
+use Rattle.asp.specs.Sets.{Set, In, pick}
 use Rattle.asp.specs.Literal.{isNegative}
 use Rattle.asp.specs.Tables.{Formed}
 use Rattle.asp.proofs.Signed.{abs-neg}
@@ -19,10 +19,10 @@ use Rattle.search.specs.Trail.{Marked, Trail, literalOf, on, NotOn}
 use Rattle.search.specs.Places.{sideOf, truthOf, truthAt, valueOn}
 use Rattle.search.specs.Scan.{Rules, rules, rowOf, condAt, scanOf}
 use Rattle.search.specs.Soft.{AssumedEntries, wishedAt, wishOf, FormedSoft}
-use Rattle.search.specs.Branch.{lowestFrom, lowestOf, freeBranch, branchOf, NotedAs}
+use Rattle.search.specs.Branch.{lowestFrom, lowestOf, freeLiteral, freeBranch, branchOf, NotedAs}
 use Rattle.search.proofs.BranchLaws.{lowest-le}
 use Rattle.search.proofs.NotedLaws.{noted-as}
-use Rattle.search.proofs.StepLaws.{wish-as, wished-or-as}
+use Rattle.search.proofs.StepLaws.{wish-as, wished-or-as, free-as}
 use Rattle.search.proofs.Counts.{not-on, short-off}
 use Rattle.search.proofs.Formed.{atom-in}
 use Rattle.search.proofs.TrailTables.{Valued, value-off}
@@ -97,8 +97,8 @@ low-or v a (suc k) = go (eqb (getD v a 0) 0) refl (low-or v (a + 1) k)
     go false e (inl r) = inl r
     go false e (inr r) = inr (step e r)
 
-lowest-undecided : (n : ℕ) (v : List ℕ) (t : Trail) → Valued v t → length t < n → Undecided n v (negℤ (pos (lowestOf v n)))
-lowest-undecided n v t w h = rw abs-neg ((low-ge v 1 (n - 1), lowest-le v n (omega arith)), go (low-or v 1 (n - 1)))
+lowest-undecided : (f : Set) (n : ℕ) (v : List ℕ) (t : Trail) → Valued v t → length t < n → Undecided n v (freeLiteral f (lowestOf v n))
+lowest-undecided f n v t w h = free-as (λ a. In n a × (getD v a 0 ≡ 0)) (f (lowestOf v n)) (lowestOf v n) ((low-ge v 1 (n - 1), lowest-le v n (omega arith)), go (low-or v 1 (n - 1)))
   where
     go : (getD v (lowestOf v n) 0 ≡ 0) ⊎ ((c : ℕ) → 1 ≤ c → c ≤ 1 + (n - 1) → ¬ (getD v c 0 ≡ 0)) → getD v (lowestOf v n) 0 ≡ 0
     go (inl r) = r
@@ -116,15 +116,15 @@ module _ (n : ℕ) (pool : List ℤ) (rows : List ℕ) (count : ℕ) (f : Formed
       let g : Rules = rules pool rows count in
       (cond-in n (ltb k (rowOf g r .b + rowOf g r .c)) (getD pool k (pos 0)) (atom-in n pool rows count f r b k x y), truth-zero (condAt pool (rowOf g r .b + rowOf g r .c) k) _ z))
 
-  free-undecided : (t : Trail) → Valued v t → length t < n → Undecided n v (freeBranch (s .wished) (s .count) v n)
+  free-undecided : (t : Trail) → Valued v t → length t < n → Undecided n v (freeBranch (s .first) (s .wished) (s .count) v n)
   free-undecided t w h =
-      wished-or-as (Undecided n v) (negℤ (pos (lowestOf v n))) (wishOf (s .wished) (s .count) v) (lowest-undecided n v t w h)
+      wished-or-as (Undecided n v) (freeLiteral (s .first) (lowestOf v n)) (wishOf (s .wished) (s .count) v) (lowest-undecided (s .first) n v t w h)
       (wish-as (Undecided n v) (s .wished) v 0 (s .count) (λ j a b z. (q .atoms j (omega arith), truth-zero (wishedAt s j) _ z)))
 
-  branch-by : (t : Trail) → Valued v t → length t < n → (x : Found) → NotedAs (Undecided n v) x → Undecided n v (branchOf (s .wished) (s .count) v n x)
+  branch-by : (t : Trail) → Valued v t → length t < n → (x : Found) → NotedAs (Undecided n v) x → Undecided n v (branchOf (s .first) (s .wished) (s .count) v n x)
   branch-by t w h (Breaker l) u = rw abs-neg u
   branch-by t w h (Broken r) u = free-undecided t w h
   branch-by t w h Clear u = free-undecided t w h
 
-  pub branch-undecided : (t : Trail) → Valued v t → length t < n → Undecided n v (branchOf (s .wished) (s .count) v n (scanOf (rules pool rows count) v))
+  pub branch-undecided : (t : Trail) → Valued v t → length t < n → Undecided n v (branchOf (s .first) (s .wished) (s .count) v n (scanOf (rules pool rows count) v))
   branch-undecided t w h = branch-by t w h (scanOf (rules pool rows count) v) scan-undecided

@@ -11,7 +11,7 @@ use mir.Syntax.{w32}
 use mir.Val.{toZ, ofZ}
 use mir.Facts.{toZ-ofZ}
 use borrow.Author.Tests.{le-leb, lt-leb, leb-true, leb-false, eqb-true}
-use Rattle.asp.specs.Sets.{pick}
+use Rattle.asp.specs.Sets.{Set, pick}
 use Rattle.asp.specs.Tables.{Formed}
 use Rattle.asp.proofs.Signed.{abs-neg, small-fits}
 use Rattle.search.specs.declared.scan.Found.{Found}
@@ -26,7 +26,7 @@ use Rattle.search.specs.declared.trail.Places.{Places}
 use Rattle.search.specs.Places.{truthAt, Good, putOf, pushOf, backOf}
 use Rattle.search.specs.Scan.{Rules, rules, Readable, scanOf}
 use Rattle.search.specs.Soft.{AssumedEntries, assumedEntries, wishFrom, wishOf, violatedOf, ReadableWishes, ReadableSoft, FormedSoft}
-use Rattle.search.specs.Branch.{lowestOf, wishedOr, freeBranch, branchOf, NotedAs, Noted}
+use Rattle.search.specs.Branch.{lowestOf, wishedOr, freeLiteral, freeBranch, branchOf, NotedAs, Noted}
 use Rattle.search.specs.Step.{openOr, unbroken, testBy, testOf, Stepped, stepped, movedBy, stepOf}
 use Rattle.search.proofs.PlacesLaws.{good-put, good-back}
 use Rattle.search.proofs.NotedLaws.{noted}
@@ -54,15 +54,20 @@ pub wished-or-as : (P : ℤ → Type 0) (l : ℤ) (x : Wish) → P l → WishAs 
 wished-or-as P l (For w) p q = q
 wished-or-as P l Decided p q = p
 
-free-small : (w : List ℤ) (k : ℕ) (v : List ℕ) (n : ℕ) → ReadableWishes w k → 1 ≤ n → n ≤ 1024 → natAbs (freeBranch w k v n) ≤ 1024
-free-small w k v n f h m =
-    wished-or-as (λ l. natAbs l ≤ 1024) (negℤ (pos (lowestOf v n))) (wishOf w k v) (rw abs-neg (omega (arith, lowest-le v n h)))
+-- in or out, the literal is of the same atom
+pub free-as : (P : ℕ → Type 0) (b : Bool) (a : ℕ) → P a → P (natAbs (pick b (pos a) (negℤ (pos a))))
+free-as P true a p = p
+free-as P false a p = rw abs-neg p
+
+free-small : (g : Set) (w : List ℤ) (k : ℕ) (v : List ℕ) (n : ℕ) → ReadableWishes w k → 1 ≤ n → n ≤ 1024 → natAbs (freeBranch g w k v n) ≤ 1024
+free-small g w k v n f h m =
+    wished-or-as (λ l. natAbs l ≤ 1024) (freeLiteral g (lowestOf v n)) (wishOf w k v) (free-as (λ a. a ≤ 1024) (g (lowestOf v n)) (lowestOf v n) (omega (arith, lowest-le v n h)))
     (wish-as (λ l. natAbs l ≤ 1024) w v 0 k (λ j a b z. f .small j (omega arith)))
 
-pub branch-small : (w : List ℤ) (k : ℕ) (v : List ℕ) (n : ℕ) (f : Found) → ReadableWishes w k → 1 ≤ n → n ≤ 1024 → Noted f → natAbs (branchOf w k v n f) ≤ 1024
-branch-small w k v n (Breaker l) r h m p = rw abs-neg p
-branch-small w k v n (Broken x) r h m p = free-small w k v n r h m
-branch-small w k v n Clear r h m p = free-small w k v n r h m
+pub branch-small : (g : Set) (w : List ℤ) (k : ℕ) (v : List ℕ) (n : ℕ) (f : Found) → ReadableWishes w k → 1 ≤ n → n ≤ 1024 → Noted f → natAbs (branchOf g w k v n f) ≤ 1024
+branch-small g w k v n (Breaker l) r h m p = rw abs-neg p
+branch-small g w k v n (Broken x) r h m p = free-small g w k v n r h m
+branch-small g w k v n Clear r h m p = free-small g w k v n r h m
 
 -- ---- the test where no rule is broken
 
@@ -75,15 +80,15 @@ module _ (n : ℕ) (s : AssumedEntries) (v : List ℕ) (len : ℕ) (f : Found) w
   unfolding unbroken
   test-violated h e q = rw (lt-leb n len h, ← e, q)
 
-  test-is-open : len < n → {x : Violation} → x ≡ violatedOf s v → x ≡ Unviolated → Open (branchOf (s .wished) (s .count) v n f) ≡ unbroken n s v len f
+  test-is-open : len < n → {x : Violation} → x ≡ violatedOf s v → x ≡ Unviolated → Open (branchOf (s .first) (s .wished) (s .count) v n f) ≡ unbroken n s v len f
   unfolding unbroken
   test-is-open h e q = rw (lt-leb n len h, ← e, q)
 
   -- the literal comes from a call as its bits, read back
   pub test-open : len < n → n ≤ 1024 → ReadableSoft s → Noted f → {x : Violation} → x ≡ violatedOf s v → x ≡ Unviolated
-      → {l : ℤ} → l ≡ branchOf (s .wished) (s .count) v n f → Open (toZ w32 (ofZ w32 l)) ≡ unbroken n s v len f
+      → {l : ℤ} → l ≡ branchOf (s .first) (s .wished) (s .count) v n f → Open (toZ w32 (ofZ w32 l)) ≡ unbroken n s v len f
   test-open h m r p e q z =
-      rw (z, toZ-ofZ (small-fits (branchOf (s .wished) (s .count) v n f) (branch-small (s .wished) (s .count) v n f (r .wishes) (omega arith) m p))) (test-is-open h e q)
+      rw (z, toZ-ofZ (small-fits (branchOf (s .first) (s .wished) (s .count) v n f) (branch-small (s .first) (s .wished) (s .count) v n f (r .wishes) (omega arith) m p))) (test-is-open h e q)
 
 -- ---- the test
 
@@ -109,13 +114,13 @@ abbrev pub Told : ℕ → AssumedEntries → List ℕ → ℕ → Found → Test
 Told n s v len f (RuleBroken r) = f ≡ Broken r
 Told n s v len f Full = NotBroken f × (n ≤ len)
 Told n s v len f (SoftViolated i) = NotBroken f × (len < n) × (violatedOf s v ≡ At i)
-Told n s v len f (Open l) = NotBroken f × (len < n) × (violatedOf s v ≡ Unviolated) × (l ≡ branchOf (s .wished) (s .count) v n f)
+Told n s v len f (Open l) = NotBroken f × (len < n) × (violatedOf s v ≡ Unviolated) × (l ≡ branchOf (s .first) (s .wished) (s .count) v n f)
 
 told-unbroken : (n : ℕ) (s : AssumedEntries) (v : List ℕ) (len : ℕ) (f : Found) → NotBroken f → Told n s v len f (unbroken n s v len f)
 unfolding unbroken
 told-unbroken n s v len f b = go (leb n len) refl (violatedOf s v) refl
   where
-    go : (y : Bool) → leb n len ≡ y → (x : Violation) → violatedOf s v ≡ x → Told n s v len f (pick y Full (openOr (branchOf (s .wished) (s .count) v n f) x))
+    go : (y : Bool) → leb n len ≡ y → (x : Violation) → violatedOf s v ≡ x → Told n s v len f (pick y Full (openOr (branchOf (s .first) (s .wished) (s .count) v n f) x))
     go true e x q = (b, leb-true n len e)
     go false e (At i) q = (b, leb-false n len e, q)
     go false e Unviolated q = (b, leb-false n len e, q, refl)
@@ -129,14 +134,14 @@ pub told : (g : Rules) (n : ℕ) (s : AssumedEntries) (v : List ℕ) (len : ℕ)
 told g n s v len = told-by n s v len (scanOf g v)
 
 module _ (g : Rules) (n : ℕ) (s : AssumedEntries) (v : List ℕ) (len : ℕ) {x : Tested} where
-  opened : x ≡ testOf g n s v len → {l : ℤ} → x ≡ Open l → NotBroken (scanOf g v) × (len < n) × (violatedOf s v ≡ Unviolated) × (l ≡ branchOf (s .wished) (s .count) v n (scanOf g v))
+  opened : x ≡ testOf g n s v len → {l : ℤ} → x ≡ Open l → NotBroken (scanOf g v) × (len < n) × (violatedOf s v ≡ Unviolated) × (l ≡ branchOf (s .first) (s .wished) (s .count) v n (scanOf g v))
   opened e q = rw (sym e ∙ q) at (told g n s v len)
 
   open-short : x ≡ testOf g n s v len → {l : ℤ} → x ≡ Open l → n ≤ 1024 → len < 1024
   open-short e q h = omega (arith, opened e q .1)
 
   open-in : x ≡ testOf g n s v len → {l : ℤ} → x ≡ Open l → n ≤ 1024 → Readable g → ReadableSoft s → natAbs l ≤ 1024
-  open-in e q h r f = let o = opened e q in rw (o .3) (branch-small (s .wished) (s .count) v n (scanOf g v) (f .wishes) (omega (arith, o .1)) h (noted g v r))
+  open-in e q h r f = let o = opened e q in rw (o .3) (branch-small (s .first) (s .wished) (s .count) v n (scanOf g v) (f .wishes) (omega (arith, o .1)) h (noted g v r))
 
 -- what a push asks; the literal comes from a call as its bits, read back
 module _ (pool : List ℤ) (rows : List ℕ) (count n : ℕ) (s : AssumedEntries) (v : List ℕ) (len : ℕ) {x : Tested} {l : ℤ} where

@@ -237,7 +237,7 @@ module _ (n : ℕ) (pool : List ℤ) (rows : List ℕ) (count : ℕ) (f : Formed
       let z : ViolatedSays (λ (j : ℕ). softOn u (wishedAt s j)) (λ (j : ℕ). eqb (getD (s .blamed) j 0) 1) (s .count) (At i) = rw e at viewed in
       (z .0, soft-all u (wishedAt s i) (q .atoms i (z .0) .0) (yes (softOn u (wishedAt s i)) (z .1)))
 
-  branches : t .len < n → Undecided n (t .value) (branchOf (s .wished) (s .count) (t .value) n (scanOf g (t .value)))
+  branches : t .len < n → Undecided n (t .value) (branchOf (s .first) (s .wished) (s .count) (t .value) n (scanOf g (t .value)))
   branches h = branch-undecided n pool rows count f s q (t .value) u (d .valued) (rw (length-is n t d) h)
 
   says-by : (y : Tested) → Told n s (t .value) (t .len) (scanOf g (t .value)) y → TestSays y

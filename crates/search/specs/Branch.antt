@@ -1,11 +1,12 @@
--- Branching, as DESIGN fixes it: "the complement of that literal, if there is one; else the wished literal of the first assumed soft literal of an entry
--- whose atom is undecided; else the lowest undecided atom, negative". Assumes nothing: these are definitions.
+-- Branching, which document 01 leaves free (docs/DECISIONS.md says why this one): the complement of the literal that would break a rule, if the scan noted one; else the
+-- wished literal of the first assumed soft literal of an entry whose atom is undecided; else the lowest undecided atom, in if it is one to try in first, else out.
+-- Assumes nothing: these are definitions.
 use mathlib.Core.List.{List}
 use Prim.Native.Nat.{ℕ, zero, suc, _+_, _-_, _≤_}
 use lib.Dec.{eqb}
 use lib.IntN.{ℤ, pos, negℤ, natAbs}
 use lib.ListN.{getD}
-use Rattle.asp.specs.Sets.{pick}
+use Rattle.asp.specs.Sets.{Set, pick}
 use Rattle.search.specs.Soft.{wishOf}
 use Rattle.search.specs.declared.scan.Found.{Found}
 use Rattle.search.specs.declared.scan.Found.the-variants.{Broken, Breaker, Clear}
@@ -24,14 +25,18 @@ abbrev pub wishedOr : ℤ → Wish → ℤ
 wishedOr l (For w) = w
 wishedOr l Decided = l
 
--- w: the first k wished literals
-abbrev pub freeBranch : List ℤ → ℕ → List ℕ → ℕ → ℤ
-freeBranch w k v n = wishedOr (negℤ (pos (lowestOf v n))) (wishOf w k v)
+-- f: the atoms to try in first
+abbrev pub freeLiteral : Set → ℕ → ℤ
+freeLiteral f a = pick (f a) (pos a) (negℤ (pos a))
 
-abbrev pub branchOf : List ℤ → ℕ → List ℕ → ℕ → Found → ℤ
-branchOf w k v n (Breaker l) = negℤ l
-branchOf w k v n (Broken r) = freeBranch w k v n
-branchOf w k v n Clear = freeBranch w k v n
+-- w: the first k wished literals
+abbrev pub freeBranch : Set → List ℤ → ℕ → List ℕ → ℕ → ℤ
+freeBranch f w k v n = wishedOr (freeLiteral f (lowestOf v n)) (wishOf w k v)
+
+abbrev pub branchOf : Set → List ℤ → ℕ → List ℕ → ℕ → Found → ℤ
+branchOf f w k v n (Breaker l) = negℤ l
+branchOf f w k v n (Broken r) = freeBranch f w k v n
+branchOf f w k v n Clear = freeBranch f w k v n
 
 -- P holds of the literal that the scan noted, if there is one
 abbrev pub NotedAs : (ℤ → Type 0) → Found → Type 0

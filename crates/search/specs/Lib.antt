@@ -4,6 +4,7 @@ pub mod Machine
 pub mod Places
 pub mod Scan
 pub mod Soft
+pub mod First
 pub mod Branch
 pub mod Step
 pub mod Link

@@ -6,21 +6,22 @@ use Prim.Native.Nat.{ℕ, zero, suc, _+_, _<_, _≤_}
 use lib.Dec.{eqb}
 use lib.IntN.{ℤ, pos, natAbs}
 use lib.ListN.{length, getD}
-use Rattle.asp.specs.Sets.{In, pick}
+use Rattle.asp.specs.Sets.{Set, In, pick}
 use Rattle.search.specs.Places.{truthAt}
 use Rattle.search.specs.declared.soft.Violation.{Violation}
 use Rattle.search.specs.declared.soft.Violation.the-variants.{At, Unviolated}
 use Rattle.search.specs.declared.soft.Wish.{Wish}
 use Rattle.search.specs.declared.soft.Wish.the-variants.{For, Decided}
 
--- the literal that each one wishes for, and whether it is blamed already (1); the first `count` of both
+-- the literal that each one wishes for, and whether it is blamed already (1), the first `count` of both; and the atoms that a free branch tries in first
 pub record AssumedEntries : Type 0 where
   pub wished : List ℤ
   pub blamed : List ℕ
   pub count : ℕ
+  pub first : Set
 
-abbrev pub assumedEntries : List ℤ → List ℕ → ℕ → AssumedEntries
-assumedEntries w b k = record { wished = w; blamed = b; count = k }
+abbrev pub assumedEntries : List ℤ → List ℕ → ℕ → Set → AssumedEntries
+assumedEntries w b k f = record { wished = w; blamed = b; count = k; first = f }
 
 abbrev pub wishedAt : AssumedEntries → ℕ → ℤ
 wishedAt s i = getD (s .wished) i (pos 0)

@@ -23,7 +23,7 @@ openOr l Unviolated = Open l
 
 -- no rule is broken
 unfoldable pub unbroken : ℕ → AssumedEntries → List ℕ → ℕ → Found → Tested
-unbroken n s v len f = pick (leb n len) Full (openOr (branchOf (s .wished) (s .count) v n f) (violatedOf s v))
+unbroken n s v len f = pick (leb n len) Full (openOr (branchOf (s .first) (s .wished) (s .count) v n f) (violatedOf s v))
 
 abbrev pub testBy : ℕ → AssumedEntries → List ℕ → ℕ → Found → Tested
 testBy n s v len (Broken r) = RuleBroken r

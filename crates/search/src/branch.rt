@@ -1,13 +1,13 @@
-// Where to branch on an open trail, as DESIGN fixes it.
+// Where to branch on an open trail. Document 01 leaves it free; docs/DECISIONS.md says why this way.
 use crate::scan::Found;
 use crate::soft;
 use crate::soft::Wish;
 use asp::literal;
 ghost use mathlib.Core.Path.{_≡_};
 ghost use Prim.Native.Nat.{ℕ, _≤_};
-ghost use lib.IntN.{pos, negℤ};
+ghost use Rattle.asp.specs.Sets.{setOf};
 ghost use Rattle.search.specs.Soft.{ReadableWishes};
-ghost use Rattle.search.specs.Branch.{Noted, lowestOf, freeBranch, branchOf};
+ghost use Rattle.search.specs.Branch.{Noted, lowestOf, freeLiteral, freeBranch, branchOf};
 
 // The lowest undecided atom; n where there is none below it.
 fn lowest(value: &[u8; 1025], n: usize) -> usize
@@ -25,30 +25,49 @@ fn lowest(value: &[u8; 1025], n: usize) -> usize
     a
 }
 
-fn lowest_out(value: &[u8; 1025], n: usize) -> i32
-    requires { ⌜ 1 ≤ n ⌝ }
-    requires { ⌜ n ≤ 1024 ⌝ }
-    ensures { λ r. ⌜ r ≡ negℤ (pos (lowestOf (now (value .entry)) n)) ⌝ }
+// The literal of atom a to try first: in, if the table says so.
+fn free_literal(tried: &[u8; 1025], a: usize) -> i32
+    requires { ⌜ a ≤ 1024 ⌝ }
+    ensures { λ r. ⌜ r ≡ freeLiteral (setOf (now (tried .entry))) a ⌝ }
 {
-    literal::negative(lowest(value, n))
+    if tried[a] == 1 {
+        return literal::positive(a);
+    }
+    literal::negative(a)
 }
 
-// Where no literal would break a rule: the first undecided wished literal; else the lowest undecided atom's, negative.
-fn free_branch<'a>(wished: &'a [i32], count: usize, n: usize, value: &'a [u8; 1025]) -> i32
+// The lowest undecided atom's literal.
+fn lowest_free<'a>(tried: &'a [u8; 1025], value: &'a [u8; 1025], n: usize) -> i32
+    requires { ⌜ 1 ≤ n ⌝ }
+    requires { ⌜ n ≤ 1024 ⌝ }
+    ensures { λ r. ⌜ r ≡ freeLiteral (setOf (now (tried .entry))) (lowestOf (now (value .entry)) n) ⌝ }
+{
+    free_literal(tried, lowest(value, n))
+}
+
+// Where no literal would break a rule: the first undecided wished literal; else the lowest undecided atom's.
+fn free_branch<'a>(
+    tried: &'a [u8; 1025],
+    wished: &'a [i32],
+    count: usize,
+    n: usize,
+    value: &'a [u8; 1025],
+) -> i32
     requires { ⌜ 1 ≤ n ⌝ }
     requires { ⌜ n ≤ 1024 ⌝ }
     requires { ⌜ ReadableWishes (now wished) count ⌝ }
-    ensures { λ r. ⌜ r ≡ freeBranch (now (wished .entry)) count (now (value .entry)) n ⌝ }
+    ensures { λ r. ⌜ r ≡ freeBranch (setOf (now (tried .entry))) (now (wished .entry)) count (now (value .entry)) n ⌝ }
 {
     match soft::undecided(wished, count, value) {
         Wish::For(l) => l,
-        Wish::Decided => lowest_out(value, n),
+        Wish::Decided => lowest_free(tried, value, n),
     }
 }
 
 // The literal to add: the complement of the one that would break a rule, else a free one.
 pub fn branch<'a>(
     found: Found,
+    tried: &'a [u8; 1025],
     wished: &'a [i32],
     count: usize,
     n: usize,
@@ -58,11 +77,11 @@ pub fn branch<'a>(
     requires { ⌜ n ≤ 1024 ⌝ }
     requires { ⌜ Noted found ⌝ }
     requires { ⌜ ReadableWishes (now wished) count ⌝ }
-    ensures { λ r. ⌜ r ≡ branchOf (now (wished .entry)) count (now (value .entry)) n found ⌝ }
+    ensures { λ r. ⌜ r ≡ branchOf (setOf (now (tried .entry))) (now (wished .entry)) count (now (value .entry)) n found ⌝ }
 {
     match found {
         Found::Breaker(l) => literal::complement(l),
-        Found::Broken(_) => free_branch(wished, count, n, value),
-        Found::Clear => free_branch(wished, count, n, value),
+        Found::Broken(_) => free_branch(tried, wished, count, n, value),
+        Found::Clear => free_branch(tried, wished, count, n, value),
     }
 }

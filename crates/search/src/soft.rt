@@ -5,6 +5,7 @@ ghost use mathlib.Core.Path.{_≡_};
 ghost use Prim.Native.Nat.{ℕ, _<_, _≤_};
 ghost use lib.ListN.{length, getD};
 ghost use lib.IntN.{pos, natAbs};
+ghost use Rattle.asp.specs.Sets.{setOf};
 ghost use Rattle.search.specs.Places.{truthAt};
 ghost use Rattle.search.specs.Soft.{assumedEntries, ReadableWishes, ReadableSoft, firstOf, violatedOf, wishOf};
 
@@ -40,13 +41,14 @@ fn first_of(found: Violation, i: usize) -> Violation
 
 // The first one that is violated and blamed already; else the first that is violated.
 pub fn violated<'a>(
+    tried: &'a [u8; 1025],
     wished: &'a [i32],
     blamed: &'a [u8],
     count: usize,
     value: &'a [u8; 1025],
 ) -> Violation
-    requires { ⌜ ReadableSoft (assumedEntries (now wished) (now blamed) count) ⌝ }
-    ensures { λ r. ⌜ r ≡ violatedOf (assumedEntries (now (wished .entry)) (now (blamed .entry)) count) (now (value .entry)) ⌝ }
+    requires { ⌜ ReadableSoft (assumedEntries (now wished) (now blamed) count (setOf (now tried))) ⌝ }
+    ensures { λ r. ⌜ r ≡ violatedOf (assumedEntries (now (wished .entry)) (now (blamed .entry)) count (setOf (now (tried .entry)))) (now (value .entry)) ⌝ }
 {
     let mut found = Violation::Unviolated;
     let mut i: usize = 0;

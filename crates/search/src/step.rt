@@ -7,6 +7,7 @@ use crate::soft::Violation;
 use crate::trail;
 ghost use mathlib.Core.Path.{_≡_};
 ghost use Prim.Native.Nat.{ℕ, _≤_};
+ghost use Rattle.asp.specs.Sets.{setOf};
 ghost use Rattle.asp.specs.Tables.{Formed};
 ghost use Rattle.search.specs.Places.{places, Good};
 ghost use Rattle.search.specs.Scan.{rules};
@@ -32,6 +33,7 @@ pub struct Outcome {
 pub fn test_unbroken<'a>(
     found: Found,
     n: usize,
+    tried: &'a [u8; 1025],
     wished: &'a [i32],
     blamed: &'a [u8],
     count: usize,
@@ -40,15 +42,22 @@ pub fn test_unbroken<'a>(
 ) -> Tested
     requires { ⌜ n ≤ 1024 ⌝ }
     requires { ⌜ Noted found ⌝ }
-    requires { ⌜ ReadableSoft (assumedEntries (now wished) (now blamed) count) ⌝ }
-    ensures { λ r. ⌜ r ≡ unbroken n (assumedEntries (now (wished .entry)) (now (blamed .entry)) count) (now (value .entry)) len found ⌝ }
+    requires { ⌜ ReadableSoft (assumedEntries (now wished) (now blamed) count (setOf (now tried))) ⌝ }
+    ensures { λ r. ⌜ r ≡ unbroken n (assumedEntries (now (wished .entry)) (now (blamed .entry)) count (setOf (now (tried .entry)))) (now (value .entry)) len found ⌝ }
 {
     if n <= len {
         return Tested::Full;
     }
-    match soft::violated(wished, blamed, count, value) {
+    match soft::violated(tried, wished, blamed, count, value) {
         Violation::At(i) => Tested::SoftViolated(i),
-        Violation::Unviolated => Tested::Open(branch::branch(found, wished, count, n, value)),
+        Violation::Unviolated => Tested::Open(branch::branch(
+            found,
+            tried,
+            wished,
+            count,
+            n,
+            value,
+        )),
     }
 }
 
@@ -58,6 +67,7 @@ pub fn test<'a>(
     rows: &'a [u16],
     rulecount: usize,
     n: usize,
+    tried: &'a [u8; 1025],
     wished: &'a [i32],
     blamed: &'a [u8],
     count: usize,
@@ -65,14 +75,14 @@ pub fn test<'a>(
     len: usize,
 ) -> Tested
     requires { ⌜ Formed n (now pool) (now rows) rulecount ⌝ }
-    requires { ⌜ FormedSoft n (assumedEntries (now wished) (now blamed) count) ⌝ }
-    ensures { λ r. ⌜ r ≡ testOf (rules (now (pool .entry)) (now (rows .entry)) rulecount) n (assumedEntries (now (wished .entry)) (now (blamed .entry)) count) (now (value .entry)) len ⌝ }
+    requires { ⌜ FormedSoft n (assumedEntries (now wished) (now blamed) count (setOf (now tried))) ⌝ }
+    ensures { λ r. ⌜ r ≡ testOf (rules (now (pool .entry)) (now (rows .entry)) rulecount) n (assumedEntries (now (wished .entry)) (now (blamed .entry)) count (setOf (now (tried .entry)))) (now (value .entry)) len ⌝ }
 {
     let found = scan::scan(pool, rows, rulecount, value);
     match found {
         Found::Broken(r) => Tested::RuleBroken(r),
-        Found::Breaker(_) => test_unbroken(found, n, wished, blamed, count, value, len),
-        Found::Clear => test_unbroken(found, n, wished, blamed, count, value, len),
+        Found::Breaker(_) => test_unbroken(found, n, tried, wished, blamed, count, value, len),
+        Found::Clear => test_unbroken(found, n, tried, wished, blamed, count, value, len),
     }
 }
 
@@ -82,6 +92,7 @@ pub fn step<'a>(
     rows: &'a [u16],
     rulecount: usize,
     n: usize,
+    tried: &'a [u8; 1025],
     wished: &'a [i32],
     blamed: &'a [u8],
     count: usize,
@@ -91,11 +102,22 @@ pub fn step<'a>(
     len: usize,
 ) -> Outcome
     requires { ⌜ Formed n (now pool) (now rows) rulecount ⌝ }
-    requires { ⌜ FormedSoft n (assumedEntries (now wished) (now blamed) count) ⌝ }
+    requires { ⌜ FormedSoft n (assumedEntries (now wished) (now blamed) count (setOf (now tried))) ⌝ }
     requires { ⌜ Good (places (now lits) (now marks) (now value) len) ⌝ }
-    ensures { λ r. ⌜ stepped (r .tested) (places (now (lits .exit)) (now (marks .exit)) (now (value .exit)) (r .len)) ≡ stepOf (rules (now (pool .entry)) (now (rows .entry)) rulecount) n (assumedEntries (now (wished .entry)) (now (blamed .entry)) count) (places (now (lits .entry)) (now (marks .entry)) (now (value .entry)) len) ⌝ }
+    ensures { λ r. ⌜ stepped (r .tested) (places (now (lits .exit)) (now (marks .exit)) (now (value .exit)) (r .len)) ≡ stepOf (rules (now (pool .entry)) (now (rows .entry)) rulecount) n (assumedEntries (now (wished .entry)) (now (blamed .entry)) count (setOf (now (tried .entry)))) (places (now (lits .entry)) (now (marks .entry)) (now (value .entry)) len) ⌝ }
 {
-    let t = test(pool, rows, rulecount, n, wished, blamed, count, value, len);
+    let t = test(
+        pool,
+        rows,
+        rulecount,
+        n,
+        tried,
+        wished,
+        blamed,
+        count,
+        value,
+        len,
+    );
     let k = match t {
         Tested::RuleBroken(_) => trail::back(lits, marks, value, len),
         Tested::Full => len,

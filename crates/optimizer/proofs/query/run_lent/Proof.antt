@@ -9,7 +9,7 @@ use Rattle.optimizer.proofs.query.run_lent.Tie as tie
 fill-requires : tie.Need-fill-requires
 fill-requires c κs =
     let a = c .before .before .before .before .before .before .before .before .before .before .before .before .before .before .before .before .before .before .before in
-    (lists-indexed (a .pre .1 .1 .1), (lists-long (a .pre .1 .1 .1), search needs, sound-small-values (a .pre .1 .1 .0)))
+    (lists-indexed (a .pre .1 .1 .1 .lists), (lists-long (a .pre .1 .1 .1 .lists), search needs, sound-small-values (a .pre .1 .1 .0)))
 
 slice-aggregate-turns : tie.Need-slice-aggregate-turns
 slice-aggregate-turns c = sym (c .before .before .before .before .before .before .before .before .before .before .before .before .before .before .before .before .before .before .before .before .before .before .before .before .before .before .pre .1 .0 .core-len)
@@ -17,7 +17,7 @@ slice-aggregate-turns c = sym (c .before .before .before .before .before .before
 turns-requires : tie.Need-turns-requires
 turns-requires c κs =
     let a = c .before .before .before .before .before .before .before .before .before .before .before .before .before .before .before .before .before .before .before .before .before .before .before .before .before .before in
-    (a .pre .0, (a .pre .1 .0, (a .pre .1 .1 .0, equipped (a .pre .1 .1 .1) (c .before .before .before .before .before .before .fill .ensures))))
+    (a .pre .0, (a .pre .1 .0, (a .pre .1 .1 .0, (equipped (a .pre .1 .1 .1 .lists) (c .before .before .before .before .before .before .fill .ensures), a .pre .1 .1 .1 .table))))
 
 returns : tie.Need-returns
 returns c = search needs

@@ -12,11 +12,11 @@ use Rattle.optimizer.proofs.run.run.Statement.{statement}
 use Rattle.optimizer.proofs.run.run.Tie as tie
 
 abbrev Inv-loop : tie.InvT-loop
-Inv-loop n pool rows rulecount levels priorities literals weights entrycount starts lists headstarts headlists budget s₀ made₀ s made =
+Inv-loop n pool rows rulecount levels priorities literals weights entrycount starts lists headstarts headlists tried budget s₀ made₀ s made =
     Running (source n pool rows rulecount (levelTables levels priorities literals weights entrycount)) budget s₀ s made
 
 abbrev μ-loop : tie.MeasureT-loop
-μ-loop n pool rows rulecount levels priorities literals weights entrycount starts lists headstarts headlists budget s₀ made₀ s made =
+μ-loop n pool rows rulecount levels priorities literals weights entrycount starts lists headstarts headlists tried budget s₀ made₀ s made =
     budget - made
 
 loop-holds : tie.Need-loop-holds Inv-loop μ-loop

@@ -6,14 +6,17 @@ use native.Mathlib.Omega.{arith}
 use lib.ListN.{length, getD}
 use Rattle.search.specs.declared.trail.Places.{Places}
 use Rattle.search.specs.Places.{places}
-use Rattle.search.specs.Step.{Stepped}
+use Rattle.asp.specs.Sets.{setOf}
+use Rattle.search.specs.declared.step.Tested.{Tested}
+use Rattle.search.specs.Soft.{assumedEntries}
+use Rattle.search.specs.Step.{Stepped, stepped, stepOf}
 use Rattle.search.proofs.Kept.{after-step}
 use Rattle.cores.specs.Judging.{judging}
 use Rattle.optimizer.specs.declared.state.Blame.{Blame}
-use Rattle.optimizer.specs.Source.{Source, source, levelTables}
+use Rattle.optimizer.specs.Source.{Source, source, levelTables, ruleTables}
 use Rattle.optimizer.specs.Turn.{QueryTables, queryTables, blameTables, assumedBy}
 use Rattle.optimizer.specs.Ready.{softs}
-use Rattle.optimizer.proofs.Turning.{all-at, entry-room, soft-formed, violated-entry, backed-is, turn-broken, turn-violated, turn-open, turn-full}
+use Rattle.optimizer.proofs.Turning.{all-at, entry-room, soft-formed, soft-formed-by, step-by, violated-entry, backed-is, turn-broken, turn-violated, turn-open, turn-full}
 use Rattle.indexing.proofs.Moving.{full-leaf}
 use borrow.Author.Needs.{needs}
 use Rattle.optimizer.proofs.turn.turn.Statement.{statement}
@@ -35,10 +38,16 @@ there s = places (s .args .lits .now) (s .args .marks .now) (s .args .value .now
 abbrev accused : tie.Start → Blame
 accused s = blameTables (s .args .flags .now) (s .args .core .now) (s .args .from)
 
+-- what the step came to, by the atoms that the table says are tried in first
+by-first : (s : tie.Start) {x : Tested} {t : Places}
+    → stepped x t ≡ stepOf (ruleTables (given s)) (given s .n) (assumedEntries (asked s .wished) (accused s .flags) (length (asked s .wished)) (setOf (s .args .tried .now))) (there s)
+    → stepped x t ≡ stepOf (ruleTables (given s)) (given s .n) (assumedBy (given s) (asked s) (accused s)) (there s)
+by-first s e = step-by (given s) (asked s) (there s) (accused s) (s .pre .1 .1 .1 .1) e
+
 step-requires : tie.Need-step-requires
 step-requires c κs =
     let s = c .before .before .before .before .before .before .before .before .before .before .before .before .before .before .before .before .before .before .before in
-    (s .pre .0 .source .rules, (soft-formed (s .pre .0) (s .pre .1 .0), (s .pre .1 .1 .0 .good, s .pre .1 .1 .1)))
+    (s .pre .0 .source .rules, (soft-formed-by (s .pre .0) (s .pre .1 .0) (s .pre .1 .1 .1 .1), (s .pre .1 .1 .0 .good, s .pre .1 .1 .1 .0)))
 
 enum-told : tie.Need-enum-told
 enum-told c = search needs
@@ -55,7 +64,7 @@ blame-entry-requires c κs =
     let r = s .pre .0 in
     let g = s .pre .1 .0 in
     let i = c .before .before .before .t .given .0 .0 in
-    let h : i < length (s .args .spots .now) = violated-entry r g (there s) (s .pre .1 .1 .0) (sym (ap (λ (x : Stepped). x .tested) (c .before .before .before .before .before .before .step .ensures .0)) ∙ c .before .before .before .t .given .1) in
+    let h : i < length (s .args .spots .now) = violated-entry r g (there s) (s .pre .1 .1 .0) (sym (ap (λ (x : Stepped). x .tested) (by-first s (c .before .before .before .before .before .before .step .ensures .0))) ∙ c .before .before .before .t .given .1) in
     let p : getD (s .args .spots .now) i 0 < softs (asked s) = all-at (λ m. m < softs (asked s)) (s .args .spots .now) (r .places-in) i h in
     (h, omega (arith, p, r .few), omega (arith, h, r .places-long, r .wished-few), g .from-in, g .flags-len, g .core-len, entry-room r g i h)
 
@@ -72,15 +81,15 @@ judged-requires : tie.Need-judged-requires
 judged-requires c κs =
     let s = c .before .before .before .before .before .before .before .before .before .before .before .before .before .before .before .before .before .before .before .before .before .before .before .before .before .before .before .before .before in
     let o = c .before .before .before .before .before .before .before .before .before .step in
-    let k = after-step (s .args .pool .now) (s .args .rows .now) (s .args .rulecount) (s .args .n) (assumedBy (asked s) (accused s)) (there s) (s .pre .0 .source .rules) (soft-formed (s .pre .0) (s .pre .1 .0)) (s .pre .1 .1 .0) (o .ensures .0) in
-    (s .pre .0, (s .pre .1 .0, (k, full-leaf (assumedBy (asked s) (accused s)) (there s) (o .ensures .0) (c .before .before .before .before .before .before .enum-told3 .given .1) k (o .ensures .1))))
+    let k = after-step (s .args .pool .now) (s .args .rows .now) (s .args .rulecount) (s .args .n) (assumedBy (given s) (asked s) (accused s)) (there s) (s .pre .0 .source .rules) (soft-formed (s .pre .0) (s .pre .1 .0)) (s .pre .1 .1 .0) (by-first s (o .ensures .0)) in
+    (s .pre .0, (s .pre .1 .0, (k, full-leaf (assumedBy (given s) (asked s) (accused s)) (there s) (by-first s (o .ensures .0)) (c .before .before .before .before .before .before .enum-told3 .given .1) k (o .ensures .1))))
 
 returns : tie.Need-returns
 returns c =
     let s = c .before .before .before .before .before .before .before .before .before .before .before .before .before .before .before .before .before .before .before .before .before .before .before .before in
     let o = c .before .before .before .before .step in (
-      turn-broken (given s) (asked s) (there s) (accused s) (o .ensures .0) (c .before .enum-told .given .1)
-          (backed-is (o .last .1 .1 .1 .1 .1 .1 .1 .1 .1 .1 .1 .0) (o .last .1 .1 .1 .1 .1 .1 .1 .1 .1 .1 .1 .1 .0) (o .last .1 .1 .1 .1 .1 .1 .1 .1 .1 .1 .1 .1 .1 .0) (o .result .len) (s .args .from) (s .args .flags .now) (s .args .core .now) (c .backed .ensures) refl),
+      turn-broken (given s) (asked s) (there s) (accused s) (by-first s (o .ensures .0)) (c .before .enum-told .given .1)
+          (backed-is (o .last .1 .1 .1 .1 .1 .1 .1 .1 .1 .1 .1 .1 .0) (o .last .1 .1 .1 .1 .1 .1 .1 .1 .1 .1 .1 .1 .1 .0) (o .last .1 .1 .1 .1 .1 .1 .1 .1 .1 .1 .1 .1 .1 .1 .0) (o .result .len) (s .args .from) (s .args .flags .now) (s .args .core .now) (c .backed .ensures) refl),
       o .ensures .1,
     )
 
@@ -92,15 +101,15 @@ returns-2 c =
     let s = c .before .before .before .before .before .before .before .before .before .before .before .before .before .before .before .before .before .before .before .before .before .before .before .before .before .before .before .before .before .before in
     let o = c .before .before .before .before .before .before .before .before .before .before .step in
     let a = c .before .before .before .blame-entry in (
-      turn-violated (given s) (asked s) (there s) (accused s) (o .ensures .0) (c .before .before .before .before .before .before .before .t .given .1) (a .ensures)
-          (backed-is (o .last .1 .1 .1 .1 .1 .1 .1 .1 .1 .1 .1 .0) (o .last .1 .1 .1 .1 .1 .1 .1 .1 .1 .1 .1 .1 .0) (o .last .1 .1 .1 .1 .1 .1 .1 .1 .1 .1 .1 .1 .1 .0) (o .result .len) (a .result) (a .last .1 .1 .0) (a .last .1 .1 .1 .0) (c .backed2 .ensures) refl),
+      turn-violated (given s) (asked s) (there s) (accused s) (by-first s (o .ensures .0)) (c .before .before .before .before .before .before .before .t .given .1) (a .ensures)
+          (backed-is (o .last .1 .1 .1 .1 .1 .1 .1 .1 .1 .1 .1 .1 .0) (o .last .1 .1 .1 .1 .1 .1 .1 .1 .1 .1 .1 .1 .1 .0) (o .last .1 .1 .1 .1 .1 .1 .1 .1 .1 .1 .1 .1 .1 .1 .0) (o .result .len) (a .result) (a .last .1 .1 .0) (a .last .1 .1 .1 .0) (c .backed2 .ensures) refl),
       o .ensures .1,
     )
 
 returns-3 : tie.Need-returns-3
 returns-3 c =
     let s = c .before .before .before .before .before .before .before .before .before .before .before .before .before .before .before .before .before .before .before .before .before .before .before in
-    (turn-open (given s) (asked s) (there s) (accused s) (c .before .before .before .step .ensures .0) (c .enum-told2 .given .1), c .before .before .before .step .ensures .1)
+    (turn-open (given s) (asked s) (there s) (accused s) (by-first s (c .before .before .before .step .ensures .0)) (c .enum-told2 .given .1), c .before .before .before .step .ensures .1)
 
 same-length-2 : tie.Need-same-length-2
 same-length-2 c = search needs
@@ -108,7 +117,7 @@ same-length-2 c = search needs
 returns-4 : tie.Need-returns-4
 returns-4 c =
     let s = c .before .before .before .before .before .before .before .before .before .before .before .before .before .before .before .before .before .before .before .before .before .before .before .before .before .before .before .before .before .before .before .before in
-    (turn-full (given s) (asked s) (there s) (accused s) (c .before .before .before .before .before .before .before .before .before .before .before .before .step .ensures .0) (c .before .before .before .before .before .before .before .before .before .enum-told3 .given .1) (c .before .before .judged .ensures .0), c .before .before .judged .ensures .1)
+    (turn-full (given s) (asked s) (there s) (accused s) (by-first s (c .before .before .before .before .before .before .before .before .before .before .before .before .step .ensures .0)) (c .before .before .before .before .before .before .before .before .before .enum-told3 .given .1) (c .before .before .judged .ensures .0), c .before .before .judged .ensures .1)
 
 pub turn-spec : {M : Type 1} → statement M
 turn-spec =

@@ -1,5 +1,7 @@
 -- `planner::load::load` meets its contract. Assumes nothing.
-use Rattle.planner.proofs.Moving.{loaded-readied, load-accepted, load-refused}
+use Rattle.planner.proofs.Moving.{loaded-well, loaded-formed, prepared-for, load-accepted, load-refused}
+use mathlib.Core.Path.{sym}
+use Rattle.planner.proofs.Link.{levels-reach}
 use borrow.Author.Needs.{needs}
 use Rattle.planner.proofs.load.load.Statement.{statement}
 use Rattle.planner.proofs.load.load.Tie as tie
@@ -10,8 +12,16 @@ load-requires c κs = search needs
 enum-told : tie.Need-enum-told
 enum-told c = search needs
 
-list-rules-requires : tie.Need-list-rules-requires
-list-rules-requires c κs = loaded-readied (c .before .before .before .before .before .before .before .before .before .load .result .stored) (c .before .before .before .before .before .before .before .enum-told .given .1) (c .before .before .before .before .before .before .before .before .before .load .ensures .1)
+slice-aggregate-used : tie.Need-slice-aggregate-used
+slice-aggregate-used c = sym (loaded-well (c .before .before .before .before .before .before .before .before .before .before .before .load .result .stored) (c .before .before .before .before .before .before .before .before .before .enum-told .given .1) (c .before .before .before .before .before .before .before .before .before .before .before .load .ensures .1) .sized .levels)
+
+used-requires : tie.Need-used-requires
+used-requires c κs = levels-reach _ (loaded-well (c .before .before .before .before .before .before .before .before .before .before .before .load .result .stored) (c .before .before .before .before .before .before .before .before .before .enum-told .given .1) (c .before .before .before .before .before .before .before .before .before .before .before .load .ensures .1))
+
+prepare-requires : tie.Need-prepare-requires
+prepare-requires c κs =
+    let l = c .before .before .before .before .before .before .before .before .before .before .before .before .before .before .before .before .before .before in
+    loaded-formed (l .load .result .stored) (c .before .before .before .before .before .before .before .before .before .before .before .before .before .before .before .before .enum-told .given .1) (l .load .ensures .1) _ (c .before .before .before .before .before .before .used .ensures)
 
 fresh-requires : tie.Need-fresh-requires
 fresh-requires c κs = search needs
@@ -21,12 +31,13 @@ enum-known-answer c = search needs
 
 returns : tie.Need-returns
 returns c =
-    let l = c .before .before .before .before .before .before .before .before .before .before .before in
-    load-accepted _ _ (l .load .result .stored) (c .before .before .before .before .before .before .before .before .before .enum-told .given .1) (l .load .ensures .0) (l .load .ensures .1) (c .before .list-rules .ensures) (c .fresh .ensures)
+    let l = c .before .before .before .before .before .before .before .before .before .before .before .before .before .before .before .before .before .before .before .before in
+    let p = l .load .result .stored in
+    load-accepted _ _ p (c .before .before .before .before .before .before .before .before .before .before .before .before .before .before .before .before .before .before .enum-told .given .1) (l .load .ensures .0) (l .load .ensures .1) (prepared-for p (c .before .prepare .result) _ (c .before .before .before .before .before .before .before .before .used .ensures) (c .before .prepare .ensures)) (c .fresh .ensures)
 
 returns-2 : tie.Need-returns-2
 returns-2 c = load-refused _ _ (c .before .before .before .load .result .stored) _ _ (c .before .answer .given .1) (c .before .before .before .load .ensures .0)
 
 pub load-spec : {M : Type 1} → statement M
 load-spec =
-    tie.close (tie.spec load-requires enum-told list-rules-requires fresh-requires enum-known-answer returns returns-2)
+    tie.close (tie.spec load-requires enum-told slice-aggregate-used used-requires prepare-requires fresh-requires enum-known-answer returns returns-2)

@@ -7,14 +7,14 @@ use Rattle.planner.proofs.service.fresh.Tie as tie
 empty-stored-requires : tie.Need-empty-stored-requires
 empty-stored-requires c κs = search needs
 
-empty-requires : tie.Need-empty-requires
-empty-requires c κs = search needs
+none-requires : tie.Need-none-requires
+none-requires c κs = search needs
 
 fresh-requires : tie.Need-fresh-requires
 fresh-requires c κs = search needs
 
 returns : tie.Need-returns
-returns c = fresh-is (c .before .before .empty-stored .ensures) (c .before .empty .ensures) (c .fresh .ensures)
+returns c = fresh-is (c .before .before .empty-stored .ensures) (c .before .none .ensures) (c .fresh .ensures)
 
 pub fresh-spec : {M : Type 1} → statement M
-fresh-spec = tie.close (tie.spec empty-stored-requires empty-requires fresh-requires returns)
+fresh-spec = tie.close (tie.spec empty-stored-requires none-requires fresh-requires returns)

@@ -17,16 +17,16 @@ enum-known-l c = search needs
 enum-told : tie.Need-enum-told
 enum-told c = search needs
 
-lowest-out-requires : tie.Need-lowest-out-requires
-lowest-out-requires c κs = search needs
+lowest-free-requires : tie.Need-lowest-free-requires
+lowest-free-requires c κs = search needs
 
 returns : tie.Need-returns
 returns c = let f : SFits w32 (c .before .l .given .0 .0) = record { sfits = c .known-told .given .0 .1 } in rw (sym (c .before .before .before .undecided .ensures) ∙ c .before .l .given .1) (toZ-ofZ f)
 
 returns-2 : tie.Need-returns-2
-returns-2 c = let f : SFits w32 (c .lowest-out .result) = record { sfits = c .lowest-out .ok } in rw (sym (c .before .before .before .undecided .ensures) ∙ c .before .enum-told .given .1) (toZ-ofZ f ∙ c .lowest-out .ensures)
+returns-2 c = let f : SFits w32 (c .lowest-free .result) = record { sfits = c .lowest-free .ok } in rw (sym (c .before .before .before .undecided .ensures) ∙ c .before .enum-told .given .1) (toZ-ofZ f ∙ c .lowest-free .ensures)
 
 pub free-branch-spec : {M : Type 1} → statement M
 free-branch-spec =
     tie.close
-    (tie.spec undecided-requires enum-known-l enum-told lowest-out-requires returns returns-2)
+    (tie.spec undecided-requires enum-known-l enum-told lowest-free-requires returns returns-2)

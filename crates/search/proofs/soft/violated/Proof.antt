@@ -1,6 +1,7 @@
 -- `search::soft::violated` meets its contract. The invariant is `Seen` of SoftLaws.
 -- Assumes nothing.
 use Prim.Native.Nat.{_-_}
+use Rattle.asp.specs.Sets.{setOf}
 use Rattle.search.specs.Soft.{assumedEntries}
 use Rattle.search.proofs.SoftLaws.{Seen, seen-start, seen-met, seen-blamed, seen-new, seen-all, wished-in, wished-small, blamed-in}
 use borrow.Author.Needs.{needs}
@@ -8,10 +9,10 @@ use Rattle.search.proofs.soft.violated.Statement.{statement}
 use Rattle.search.proofs.soft.violated.Tie as tie
 
 abbrev Inv-loop : tie.InvT-loop
-Inv-loop wished blamed count value found₀ i₀ found i = Seen (assumedEntries wished blamed count) value found i
+Inv-loop tried wished blamed count value found₀ i₀ found i = Seen (assumedEntries wished blamed count (setOf tried)) value found i
 
 abbrev μ-loop : tie.MeasureT-loop
-μ-loop wished blamed count value found₀ i₀ found i = count - i
+μ-loop tried wished blamed count value found₀ i₀ found i = count - i
 
 loop-holds : tie.Need-loop-holds Inv-loop μ-loop
 loop-holds c = search (seen-start, needs)
