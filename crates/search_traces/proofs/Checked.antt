@@ -13,6 +13,10 @@ use borrow.Author.Tests.{eqb-true, eqb-false}
 use Rattle.asp.specs.Sets.{In}
 use Rattle.asp.specs.Program.{Literal, Body, normal, Head, constraint, plain, choice, Rule, All, LiteralIn, BodyIn, HeadIn, RuleIn}
 use Rattle.asp.specs.Tables.{span, Row, rowAt, ruleAt, rulesOf, RowIn, Formed}
+use Rattle.search.specs.Scan.{rules}
+use Rattle.counting.specs.Counts.{sumFrom}
+use Rattle.indexing.specs.Sorting.{Readied}
+use Rattle.indexing.proofs.Indexing.{ready}
 use Rattle.search_traces.specs.Stored.{Wished}
 
 -- f at every number below k
@@ -103,6 +107,13 @@ formed n pool rows count t =
       row = λ r h. row-ok pool (rowAt rows r) (every-at (λ (i : ℕ). rowOk pool (rowAt rows i)) count (c .0) r h);
       atoms = rules-ok n (rulesOf pool rows count) (c .1);
     }
+
+-- the rules are few enough, and so are their places together
+abbrev pub roomOk : List ℕ → ℕ → Bool
+roomOk rows count = leb count 2048 && leb (sumFrom (λ (r : ℕ). rowAt rows r .c + rowAt rows r .d) 0 count) 16384
+
+pub readied : {n : ℕ} {pool : List ℤ} {rows : List ℕ} {count : ℕ} → Formed n pool rows count → T (roomOk rows count) → Readied (rules pool rows count)
+readied {n} {pool} {rows} {count} f t = let a = and-yes (leb count 2048) _ t in ready f (leb→le count 2048 (a .0)) (leb→le _ 16384 (a .1))
 
 abbrev pub wishedOk : ℕ → List ℤ → ℕ → Bool
 wishedOk n w k = leb k 8 && (leb k (length w) && every (λ (i : ℕ). atomIn n (natAbs (getD w i (pos 0)))) k)

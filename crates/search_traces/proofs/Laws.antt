@@ -8,36 +8,45 @@ use lib.ListN.{length, getD}
 use Rattle.asp.specs.Tables.{Formed}
 use Rattle.search.specs.declared.step.Tested.{Tested}
 use Rattle.search.specs.declared.trail.Places.{Places}
-use Rattle.search.specs.Places.{places, backOf, SoundTrail}
-use Rattle.search.specs.Scan.{rules}
+use Rattle.search.specs.Places.{places, freshPlaces, backOf, Good, SoundTrail}
+use Rattle.search.specs.Scan.{Rules, rules}
 use Rattle.search.specs.Soft.{AssumedEntries, assumedEntries, FormedSoft}
 use Rattle.search.specs.Step.{stepped, stepOf}
-use Rattle.search.proofs.Kept.{after-back, after-step, sound-short, sound-small}
-use Rattle.search_traces.specs.Stored.{Wished}
+use Rattle.search.proofs.Kept.{after-back, after-fresh, after-step}
+use Rattle.counting.specs.declared.counters.Index.{Index}
+use Rattle.counting.specs.Counters.{Counters}
+use Rattle.counting.specs.Counts.{Tracks}
+use Rattle.indexing.specs.Leaf.{Indexes, Equipped}
+use Rattle.indexing.proofs.Moving.{equipped}
+use Rattle.search_traces.specs.Stored.{Wished, Running}
 
--- ---- a cut
+-- ---- what can be read of a query that runs
 
-module _ (n : ℕ) (t : Places) {ls : List ℤ} {ms v : List ℕ} {k : ℕ} where
-  pub cut-short : places ls ms v k ≡ backOf t → SoundTrail n t → k ≤ 1024
-  cut-short e d = sound-short (after-back n t e d)
+module _ {n : ℕ} {g : Rules} {o h : Index} {ls : List ℤ} {ms v : List ℕ} {k : ℕ} {y : Counters} (x : Running n g o h (places ls ms v k) y) where
+  pub good-at : Good (places ls ms v k)
+  good-at = x .trail .good
 
-  pub cut-small : places ls ms v k ≡ backOf t → SoundTrail n t → (i : ℕ) → natAbs (getD ls i (pos 0)) ≤ 1024
-  cut-small e d = sound-small (after-back n t e d)
+  pub short-at : k ≤ 1024
+  short-at = x .trail .good .short
 
-  pub cut-at : {j : ℕ} → places ls ms v k ≡ backOf t → SoundTrail n t → j ≡ k → SoundTrail n (places ls ms v j)
-  cut-at e d q = rw q (after-back n t e d)
+  pub small-at : (i : ℕ) → natAbs (getD ls i (pos 0)) ≤ 1024
+  small-at = x .trail .good .small
 
--- ---- a step
+  pub equipped-at : Equipped g o h v y
+  equipped-at = x .equipped
 
-module _ (pool : List ℤ) (rows : List ℕ) (rulecount n : ℕ) (s : AssumedEntries) (t : Places) {x : Tested} {ls : List ℤ} {ms v : List ℕ} {k : ℕ} where
-  pub turn-short : Formed n pool rows rulecount → FormedSoft n s → SoundTrail n t → stepped x (places ls ms v k) ≡ stepOf (rules pool rows rulecount) n s t → k ≤ 1024
-  turn-short f q d e = sound-short (after-step pool rows rulecount n s t f q d e)
+-- ---- it runs at the start, after a cut, after a step
 
-  pub turn-small : Formed n pool rows rulecount → FormedSoft n s → SoundTrail n t → stepped x (places ls ms v k) ≡ stepOf (rules pool rows rulecount) n s t → (i : ℕ) → natAbs (getD ls i (pos 0)) ≤ 1024
-  turn-small f q d e = sound-small (after-step pool rows rulecount n s t f q d e)
+module _ {n : ℕ} {g : Rules} {o h : Index} {t₁ : Places} {y₁ : Counters} where
+  pub runs-fresh : t₁ ≡ freshPlaces → Indexes g o h → Tracks g o (t₁ .value) y₁ → Running n g o h t₁ y₁
+  runs-fresh e x k = record { trail = after-fresh n e; equipped = equipped x k }
 
-  pub turn-at : {j : ℕ} → Formed n pool rows rulecount → FormedSoft n s → SoundTrail n t → stepped x (places ls ms v k) ≡ stepOf (rules pool rows rulecount) n s t → j ≡ k → SoundTrail n (places ls ms v j)
-  turn-at f q d e z = rw z (after-step pool rows rulecount n s t f q d e)
+  pub runs-after-cut : {t : Places} {y : Counters} → Running n g o h t y → t₁ ≡ backOf t → Equipped g o h (t₁ .value) y₁ → Running n g o h t₁ y₁
+  runs-after-cut {t} r e k = record { trail = after-back n t e (r .trail); equipped = k }
+
+module _ {n : ℕ} {pool : List ℤ} {rows : List ℕ} {rulecount : ℕ} {s : AssumedEntries} {o h : Index} {t t₁ : Places} {y y₁ : Counters} {x : Tested} where
+  pub runs-on : Formed n pool rows rulecount → FormedSoft n s → Running n (rules pool rows rulecount) o h t y → stepped x t₁ ≡ stepOf (rules pool rows rulecount) n s t → Equipped (rules pool rows rulecount) o h (t₁ .value) y₁ → Running n (rules pool rows rulecount) o h t₁ y₁
+  runs-on f q r e k = record { trail = after-step pool rows rulecount n s t f q (r .trail) e; equipped = k }
 
 -- ---- the wishes, with any table of eight places for what is blamed
 

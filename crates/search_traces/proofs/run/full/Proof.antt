@@ -1,6 +1,7 @@
 -- `search_traces::run::full` meets its contract.
 -- Assumes nothing.
 use Rattle.search.proofs.Formed.{readable-soft}
+use Rattle.search_traces.proofs.Laws.{short-at, small-at}
 use borrow.Author.Needs.{needs}
 use Rattle.search_traces.proofs.run.full.Statement.{statement}
 use Rattle.search_traces.proofs.run.full.Tie as tie
@@ -54,7 +55,7 @@ say-requires-3 : tie.Need-say-requires-3
 say-requires-3 c κs = search needs
 
 say-trail-requires : tie.Need-say-trail-requires
-say-trail-requires c κs = search needs
+say-trail-requires c κs = (short-at (c .before .before .before .before .before .before .before .before .before .before .before .before .before .before .before .before .before .before .before .before .pre .1 .1), small-at (c .before .before .before .before .before .before .before .before .before .before .before .before .before .before .before .before .before .before .before .before .pre .1 .1))
 
 returns-2 : tie.Need-returns-2
 returns-2 c = search needs
