@@ -8,8 +8,8 @@ ghost use Rattle.asp.specs.Stable.{holdsIn, allHold};
 ghost use Rattle.asp.specs.Program.{All, LiteralIn};
 ghost use Rattle.asp.specs.Tables.{literalsAt, named};
 
-fn wide(x: u16) -> usize
-    ensures { λ r. ⌜ r ≡ x ⌝ }
+pub fn wide(x: u16) -> usize
+    ensures { λ r. ⌜ (r ≡ x) × (r < 65536) ⌝ }
 {
     x as usize
 }

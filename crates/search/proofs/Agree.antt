@@ -31,7 +31,7 @@ unfoldable pub litsOn : Trail → List Literal → Bool
 litsOn t [] = true
 litsOn t (l ∷ ls) = litOn t l && litsOn t ls
 
--- Conditions of a rule: its body and, for a plain rule with a head, the head's complement; a choice rule has none.
+-- the conditions of a rule: its body and, for a plain rule with a head, the head's complement; a choice rule has none
 abbrev pub headOn : Trail → Head → Bool
 headOn t constraint = true
 headOn t (plain h) = litOn t (negℤ (pos h))

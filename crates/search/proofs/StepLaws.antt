@@ -1,12 +1,12 @@
 -- The ways that a test and a step go, from what their calls say. Assumes nothing.
-use mathlib.Core.Path.{_≡_, refl, sym, ap, _∙_}
+use mathlib.Core.Path.{_≡_, refl, sym, _∙_}
 use mathlib.Core.Bool.{Bool, true, false}
-use mathlib.Core.List.{List, [], _∷_}
-use Prim.Native.Nat.{ℕ, zero, suc, _+_, _-_, _≤_, _<_}
+use mathlib.Core.List.{List}
+use Prim.Native.Nat.{ℕ, zero, suc, _+_, _≤_, _<_}
 use native.Mathlib.Omega.{arith}
 use lib.Dec.{leb}
 use lib.IntN.{ℤ, pos, negℤ, natAbs}
-use lib.ListN.{length, getD}
+use lib.ListN.{getD}
 use mir.Syntax.{w32}
 use mir.Val.{toZ, ofZ}
 use mir.Facts.{toZ-ofZ}
@@ -23,12 +23,11 @@ use Rattle.search.specs.declared.soft.Wish.the-variants.{For, Decided}
 use Rattle.search.specs.declared.step.Tested.{Tested}
 use Rattle.search.specs.declared.step.Tested.the-variants.{RuleBroken, Full, SoftViolated, Open}
 use Rattle.search.specs.declared.trail.Places.{Places}
-use Rattle.search.specs.Places.{truthAt, Good, putOf, pushOf, backOf}
+use Rattle.search.specs.Places.{truthAt, pushOf, backOf}
 use Rattle.search.specs.Scan.{Rules, rules, Readable, scanOf}
-use Rattle.search.specs.Soft.{AssumedEntries, assumedEntries, wishFrom, wishOf, violatedOf, ReadableWishes, ReadableSoft, FormedSoft}
-use Rattle.search.specs.Branch.{lowestOf, wishedOr, freeLiteral, freeBranch, branchOf, NotedAs, Noted}
-use Rattle.search.specs.Step.{openOr, unbroken, testBy, testOf, Stepped, stepped, movedBy, stepOf}
-use Rattle.search.proofs.PlacesLaws.{good-put, good-back}
+use Rattle.search.specs.Soft.{AssumedEntries, wishFrom, wishOf, violatedOf, ReadableWishes, ReadableSoft, FormedSoft}
+use Rattle.search.specs.Branch.{lowestOf, wishedOr, freeLiteral, freeBranch, branchOf, Noted}
+use Rattle.search.specs.Step.{openOr, unbroken, testBy, testOf, stepped, stepOf}
 use Rattle.search.proofs.NotedLaws.{noted}
 use Rattle.search.proofs.BranchLaws.{lowest-le}
 use Rattle.search.proofs.Formed.{readable, readable-soft}
@@ -89,18 +88,6 @@ module _ (n : ℕ) (s : AssumedEntries) (v : List ℕ) (len : ℕ) (f : Found) w
       → {l : ℤ} → l ≡ branchOf (s .first) (s .wished) (s .count) v n f → Open (toZ w32 (ofZ w32 l)) ≡ unbroken n s v len f
   test-open h m r p e q z =
       rw (z, toZ-ofZ (small-fits (branchOf (s .first) (s .wished) (s .count) v n f) (branch-small (s .first) (s .wished) (s .count) v n f (r .wishes) (omega arith) m p))) (test-is-open h e q)
-
--- ---- the test
-
-module _ (g : Rules) (n : ℕ) (s : AssumedEntries) (v : List ℕ) (len : ℕ) {f : Found} where
-  pub test-broken : f ≡ scanOf g v → {r : ℕ} → f ≡ Broken r → RuleBroken r ≡ testOf g n s v len
-  test-broken e q = rw (← e, q)
-
-  pub test-breaker : f ≡ scanOf g v → {l : ℤ} → f ≡ Breaker l → {x : Tested} → x ≡ unbroken n s v len f → x ≡ testOf g n s v len
-  test-breaker e q z = rw (← e, q) (rw q at z)
-
-  pub test-clear : f ≡ scanOf g v → f ≡ Clear → {x : Tested} → x ≡ unbroken n s v len f → x ≡ testOf g n s v len
-  test-clear e q z = rw (← e, q) (rw q at z)
 
 -- ---- what an open trail says
 

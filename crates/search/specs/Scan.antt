@@ -1,9 +1,8 @@
 -- The scan of the rules under the values of a trail. Document 01: "In the test for failure the scan over rules and their literals is left at the first
--- broken rule." DESIGN: on the way it notes the first literal that would break a rule if added. Assumes nothing: these are definitions.
-use mathlib.Core.Path.{_≡_}
+-- broken rule." On the way it notes the first literal that would break a rule if added: document 01 leaves that free; docs/DECISIONS.md says why this one. Assumes nothing: these are definitions.
 use mathlib.Core.Bool.{Bool, true, false}
 use mathlib.Core.List.{List, [], _∷_}
-use Prim.Native.Nat.{ℕ, zero, suc, _+_, _-_, _*_, _<_, _≤_}
+use Prim.Native.Nat.{ℕ, zero, suc, _+_, _*_, _<_, _≤_}
 use lib.Dec.{eqb, ltb}
 use lib.IntN.{ℤ, pos, negℤ, natAbs}
 use lib.ListN.{length, getD}
@@ -69,11 +68,6 @@ abbrev pub isAll : Rest → Bool
 isAll All = true
 isAll (One l) = false
 isAll Off = false
-
-abbrev pub isOff : Rest → Bool
-isOff All = false
-isOff (One l) = false
-isOff Off = true
 
 -- the first literal that is left alone is noted
 abbrev pub noteOf : Found → Rest → Found

@@ -34,7 +34,7 @@ abbrev pub firstOf : Violation → ℕ → Violation
 firstOf (At j) i = At j
 firstOf Unviolated i = At i
 
--- among the k from i on, with the first violated one so far: one that is blamed already comes before a new one (docs/DECISIONS.md, "blame")
+-- among the k from i on, with the first violated one so far: one that is blamed already comes before a new one (document 01 leaves it free; docs/DECISIONS.md says why this one)
 unfoldable pub violatedFrom : AssumedEntries → List ℕ → Violation → ℕ → ℕ → Violation
 violatedFrom s v a i zero = a
 violatedFrom s v a i (suc k) =

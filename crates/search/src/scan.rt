@@ -1,12 +1,12 @@
-// The scan over rules and their literals: left at the first broken rule, with the first literal noted that would break one.
-use crate::table;
+// What a scan over rules and their literals meets: the conditions of a rule, what is left of them, what it finds. The scan itself is in `counting`.
 use crate::value;
 use asp::literal;
+use asp::table;
 ghost use mathlib.Core.Path.{_≡_};
-ghost use Prim.Native.Nat.{ℕ, _+_, _*_, _<_, _≤_};
+ghost use Prim.Native.Nat.{ℕ, _<_, _≤_};
 ghost use lib.ListN.{length, getD};
 ghost use lib.IntN.{pos, natAbs};
-ghost use Rattle.search.specs.Scan.{rules, Readable, condAt, meetValue, meetOf, begins, freeOf, isAll, isOff, noteOf, scanOf};
+ghost use Rattle.search.specs.Scan.{condAt, meetValue, meetOf, freeOf, isAll, noteOf};
 
 // What is left of a rule's conditions: nothing (all are on the trail), one undecided literal, or too much.
 pub enum Rest {
@@ -80,18 +80,6 @@ pub fn meet_at<'a>(pool: &'a [i32], value: &'a [u8; 1025], rest: Rest, mid: usiz
     meet(value, rest, condition(pool, mid, k))
 }
 
-// A choice rule has no conditions that could all be on the trail.
-fn begin(rows: &[u16], r: usize) -> Rest
-    requires { ⌜ r * 4 < length (now rows) ⌝ }
-    ensures { λ s. ⌜ s ≡ begins (getD (now (rows .entry)) (r * 4) 0) ⌝ }
-{
-    if rows[r * 4] == 1 {
-        Rest::Off
-    } else {
-        Rest::All
-    }
-}
-
 pub fn all(rest: Rest) -> bool
     ensures { λ r. ⌜ r ≡ isAll rest ⌝ }
 {
@@ -99,16 +87,6 @@ pub fn all(rest: Rest) -> bool
         Rest::All => true,
         Rest::One(_) => false,
         Rest::Off => false,
-    }
-}
-
-fn off(rest: Rest) -> bool
-    ensures { λ r. ⌜ r ≡ isOff rest ⌝ }
-{
-    match rest {
-        Rest::All => false,
-        Rest::One(_) => false,
-        Rest::Off => true,
     }
 }
 
@@ -125,38 +103,4 @@ pub fn note(found: Found, rest: Rest) -> Found
             Rest::Off => found,
         },
     }
-}
-
-// The scan of the rules under the values of a trail.
-pub fn scan<'a>(pool: &'a [i32], rows: &'a [u16], count: usize, value: &'a [u8; 1025]) -> Found
-    requires { ⌜ Readable (rules (now pool) (now rows) count) ⌝ }
-    ensures { λ r. ⌜ r ≡ scanOf (rules (now (pool .entry)) (now (rows .entry)) count) (now (value .entry)) ⌝ }
-{
-    let mut found = Found::Clear;
-    let mut r: usize = 0;
-    'rules: while r < count {
-        let first = table::number(rows, r, 1);
-        let mid = first + table::number(rows, r, 2);
-        let end = mid + table::number(rows, r, 3);
-        let mut rest = begin(rows, r);
-        let mut k = first;
-        loop {
-            if end <= k {
-                if all(rest) {
-                    found = Found::Broken(r);
-                    break 'rules;
-                }
-                found = note(found, rest);
-                r += 1;
-                continue 'rules;
-            }
-            rest = meet_at(pool, value, rest, mid, k);
-            if off(rest) {
-                r += 1;
-                continue 'rules;
-            }
-            k += 1;
-        }
-    }
-    found
 }

@@ -1,6 +1,6 @@
 // The assumed soft literals of entries (document 01's wishes): each is the literal that it wishes for, and is violated where that does not hold.
-use crate::table;
 use crate::value;
+use asp::table;
 ghost use mathlib.Core.Path.{_≡_};
 ghost use Prim.Native.Nat.{ℕ, _<_, _≤_};
 ghost use lib.ListN.{length, getD};

@@ -1,11 +1,11 @@
-// The trail (document 01's path): 1,024 places, their marks, the value of each atom; its length goes in and comes back.
+// The trail (document 01's path): 1,024 places, their marks, the value of each atom; its length goes in and comes back. The moves over many places are in `counting`.
 use crate::value;
 use asp::literal;
 ghost use mathlib.Core.Path.{_≡_};
 ghost use Prim.Native.Nat.{ℕ, _+_, _<_, _≤_};
 ghost use lib.ListN.{getD};
 ghost use lib.IntN.{pos, natAbs};
-ghost use Rattle.search.specs.Places.{Good, places, freshPlaces, putOf, pushOf, dropOf, backOf};
+ghost use Rattle.search.specs.Places.{places, freshPlaces, putOf, dropOf};
 
 // The tables of a trail by value, as a state keeps them.
 pub struct Places {
@@ -47,21 +47,6 @@ pub fn put(
     len + 1
 }
 
-// On an open trail: a literal is added as a decision.
-pub fn push(
-    lits: &mut [i32; 1024],
-    marks: &mut [u8; 1024],
-    value: &mut [u8; 1025],
-    len: usize,
-    l: i32,
-) -> usize
-    requires { ⌜ len < 1024 ⌝ }
-    requires { ⌜ natAbs l ≤ 1024 ⌝ }
-    ensures { λ r. ⌜ places (now (lits .exit)) (now (marks .exit)) (now (value .exit)) r ≡ pushOf l (places (now (lits .entry)) (now (marks .entry)) (now (value .entry)) len) ⌝ }
-{
-    put(lits, marks, value, len, l, 1)
-}
-
 // The literal at k, the last, is taken away: its place is free again.
 pub fn take(lits: &mut [i32; 1024], marks: &mut [u8; 1024], value: &mut [u8; 1025], k: usize) -> i32
     requires { ⌜ k < 1024 ⌝ }
@@ -74,26 +59,4 @@ pub fn take(lits: &mut [i32; 1024], marks: &mut [u8; 1024], value: &mut [u8; 102
     marks[k] = 0;
     value[a] = 0;
     l
-}
-
-// On a conflict: cut after the last decision, which is replaced by its complement, flipped. The length is 0 where there was no decision: the query has ended.
-pub fn back(
-    lits: &mut [i32; 1024],
-    marks: &mut [u8; 1024],
-    value: &mut [u8; 1025],
-    len: usize,
-) -> usize
-    requires { ⌜ Good (places (now lits) (now marks) (now value) len) ⌝ }
-    ensures { λ r. ⌜ places (now (lits .exit)) (now (marks .exit)) (now (value .exit)) r ≡ backOf (places (now (lits .entry)) (now (marks .entry)) (now (value .entry)) len) ⌝ }
-{
-    let mut k = len;
-    while 0 < k {
-        k -= 1;
-        let mark = marks[k];
-        let l = take(lits, marks, value, k);
-        if mark == 1 {
-            return put(lits, marks, value, k, literal::complement(l), 2);
-        }
-    }
-    0
 }

@@ -1,14 +1,14 @@
 -- What a turn keeps. Assumes nothing.
-use mathlib.Core.Path.{_≡_, refl, sym, ap, _∙_}
+use mathlib.Core.Path.{_≡_}
 use mathlib.Core.List.{List}
-use Prim.Native.Nat.{ℕ, _≤_, _<_}
+use Prim.Native.Nat.{ℕ, _≤_}
 use native.Mathlib.Omega.{arith}
 use lib.IntN.{ℤ, pos, natAbs}
 use lib.ListN.{length, getD}
 use Rattle.asp.specs.Tables.{Formed}
 use Rattle.search.specs.declared.step.Tested.{Tested}
 use Rattle.search.specs.declared.trail.Places.{Places}
-use Rattle.search.specs.Places.{places, freshPlaces, backOf, Good, SoundTrail}
+use Rattle.search.specs.Places.{places, freshPlaces, backOf, Good}
 use Rattle.search.specs.Scan.{Rules, rules}
 use Rattle.search.specs.Soft.{AssumedEntries, assumedEntries, FormedSoft}
 use Rattle.search.specs.Step.{stepped, stepOf}

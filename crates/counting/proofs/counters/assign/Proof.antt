@@ -2,10 +2,6 @@ use Rattle.counting.proofs.CounterLaws.{fit-shaped, released-long, assi
 use borrow.Author.Needs.{needs}
 use Rattle.counting.proofs.counters.assign.Statement.{statement}
 use Rattle.counting.proofs.counters.assign.Tie as tie
-use Rattle.counting.proofs.counters.assign.Reads as reads
-use Rattle.counting.proofs.counters.assign.Lts as lts
-use Rattle.counting.proofs.counters.decide.Reads as decide-reads
-use Rattle.counting.proofs.counters.forget.Reads as forget-reads
 
 -- src/counters.rt:192:9
 forget-requires : tie.Need-forget-requires

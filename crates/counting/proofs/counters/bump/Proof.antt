@@ -2,8 +2,6 @@ use borrow.Author.Needs.{needs}
 use Rattle.counting.proofs.CounterLaws.{more-one, more-same}
 use Rattle.counting.proofs.counters.bump.Statement.{statement}
 use Rattle.counting.proofs.counters.bump.Tie as tie
-use Rattle.counting.proofs.counters.bump.Reads as reads
-use Rattle.counting.proofs.counters.bump.Lts as lts
 
 -- src/counters.rt:36:16
 add-result : tie.Need-add-result

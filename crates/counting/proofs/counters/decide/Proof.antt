@@ -2,9 +2,6 @@ use Rattle.counting.proofs.CounterLaws.{decided-in, decided-out}
 use borrow.Author.Needs.{needs}
 use Rattle.counting.proofs.counters.decide.Statement.{statement}
 use Rattle.counting.proofs.counters.decide.Tie as tie
-use Rattle.counting.proofs.counters.decide.Reads as reads
-use Rattle.counting.proofs.counters.decide.Lts as lts
-use Rattle.counting.proofs.counters.shift.Reads as shift-reads
 
 -- src/counters.rt:158:37
 mul-shift : tie.Need-mul-shift

@@ -2,8 +2,6 @@ use borrow.Author.Needs.{needs}
 use Rattle.counting.proofs.CounterLaws.{least-first, least-second}
 use Rattle.counting.proofs.counters.least.Statement.{statement}
 use Rattle.counting.proofs.counters.least.Tie as tie
-use Rattle.counting.proofs.counters.least.Reads as reads
-use Rattle.counting.proofs.counters.least.Lts as lts
 
 -- src/counters.rt:54:9
 returns : tie.Need-returns

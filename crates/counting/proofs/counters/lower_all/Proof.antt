@@ -4,10 +4,6 @@ use Rattle.counting.specs.Counters.{counters}
 use Rattle.counting.proofs.CounterLaws.{Lowering, lowering-start, lowering-next, lowering-done, lowering-long, rule-small}
 use Rattle.counting.proofs.counters.lower_all.Statement.{statement}
 use Rattle.counting.proofs.counters.lower_all.Tie as tie
-use Rattle.counting.proofs.counters.lower_all.Reads as reads
-use Rattle.counting.proofs.counters.lower_all.Lts as lts
-use Rattle.asp.proofs.table.number_at.Reads as number-at-reads
-use Rattle.counting.proofs.counters.lower_at.Reads as lower-at-reads
 
 abbrev Inv-loop : tie.InvT-loop
 Inv-loop rules from end key₀ m₀ e₀ key m e = Lowering rules from end (counters key₀ m₀) (counters key m) e

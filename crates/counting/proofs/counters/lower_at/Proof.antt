@@ -2,10 +2,6 @@ use Rattle.counting.proofs.CounterLaws.{lower-one}
 use borrow.Author.Needs.{needs}
 use Rattle.counting.proofs.counters.lower_at.Statement.{statement}
 use Rattle.counting.proofs.counters.lower_at.Tie as tie
-use Rattle.counting.proofs.counters.lower_at.Reads as reads
-use Rattle.counting.proofs.counters.lower_at.Lts as lts
-use Rattle.counting.proofs.counters.less.Reads as less-reads
-use Rattle.counting.proofs.counters.lower_marks.Reads as lower-marks-reads
 
 -- src/counters.rt:95:13
 mul-k : tie.Need-mul-k

@@ -2,10 +2,6 @@ use Rattle.counting.proofs.CounterLaws.{marks-far, marks-broken, marks-
 use borrow.Author.Needs.{needs}
 use Rattle.counting.proofs.counters.lower_marks.Statement.{statement}
 use Rattle.counting.proofs.counters.lower_marks.Tie as tie
-use Rattle.counting.proofs.counters.lower_marks.Reads as reads
-use Rattle.counting.proofs.counters.lower_marks.Lts as lts
-use Rattle.counting.proofs.counters.bump.Reads as bump-reads
-use Rattle.counting.proofs.counters.least.Reads as least-reads
 
 -- src/counters.rt:64:9
 returns : tie.Need-returns

@@ -4,10 +4,6 @@ use Rattle.counting.specs.Counters.{counters}
 use Rattle.counting.proofs.CounterLaws.{Raising, raising-start, raising-next, raising-done, raising-long, rule-small}
 use Rattle.counting.proofs.counters.raise_all.Statement.{statement}
 use Rattle.counting.proofs.counters.raise_all.Tie as tie
-use Rattle.counting.proofs.counters.raise_all.Reads as reads
-use Rattle.counting.proofs.counters.raise_all.Lts as lts
-use Rattle.asp.proofs.table.number_at.Reads as number-at-reads
-use Rattle.counting.proofs.counters.raise_at.Reads as raise-at-reads
 
 abbrev Inv-loop : tie.InvT-loop
 Inv-loop rules from end key₀ m₀ e₀ key m e = Raising rules from end (counters key₀ m₀) (counters key m) e

@@ -2,10 +2,6 @@ use Rattle.counting.proofs.CounterLaws.{raise-one}
 use borrow.Author.Needs.{needs}
 use Rattle.counting.proofs.counters.raise_at.Statement.{statement}
 use Rattle.counting.proofs.counters.raise_at.Tie as tie
-use Rattle.counting.proofs.counters.raise_at.Reads as reads
-use Rattle.counting.proofs.counters.raise_at.Lts as lts
-use Rattle.counting.proofs.counters.raise_marks.Reads as raise-marks-reads
-use Rattle.counting.proofs.counters.raised.Reads as raised-reads
 
 -- src/counters.rt:104:13
 mul-k : tie.Need-mul-k

@@ -2,9 +2,6 @@ use Rattle.counting.proofs.CounterLaws.{marks-mended, marks-same}
 use borrow.Author.Needs.{needs}
 use Rattle.counting.proofs.counters.raise_marks.Statement.{statement}
 use Rattle.counting.proofs.counters.raise_marks.Tie as tie
-use Rattle.counting.proofs.counters.raise_marks.Reads as reads
-use Rattle.counting.proofs.counters.raise_marks.Lts as lts
-use Rattle.counting.proofs.counters.fall.Reads as fall-reads
 
 -- src/counters.rt:84:21
 fall-requires : tie.Need-fall-requires

@@ -2,8 +2,6 @@ use borrow.Author.Needs.{needs}
 use Rattle.counting.proofs.CounterLaws.{more-one, more-same}
 use Rattle.counting.proofs.counters.raised.Statement.{statement}
 use Rattle.counting.proofs.counters.raised.Tie as tie
-use Rattle.counting.proofs.counters.raised.Reads as reads
-use Rattle.counting.proofs.counters.raised.Lts as lts
 
 -- src/counters.rt:27:16
 add-result : tie.Need-add-result

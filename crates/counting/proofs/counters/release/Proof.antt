@@ -2,9 +2,6 @@ use Rattle.counting.proofs.CounterLaws.{released-none, released-in, rel
 use borrow.Author.Needs.{needs}
 use Rattle.counting.proofs.counters.release.Statement.{statement}
 use Rattle.counting.proofs.counters.release.Tie as tie
-use Rattle.counting.proofs.counters.release.Reads as reads
-use Rattle.counting.proofs.counters.release.Lts as lts
-use Rattle.counting.proofs.counters.shift.Reads as shift-reads
 
 -- src/counters.rt:169:9
 returns : tie.Need-returns

@@ -2,11 +2,6 @@ use Rattle.counting.proofs.CounterLaws.{place-in, end-in, rules-small, 
 use borrow.Author.Needs.{needs}
 use Rattle.counting.proofs.counters.shift.Statement.{statement}
 use Rattle.counting.proofs.counters.shift.Tie as tie
-use Rattle.counting.proofs.counters.shift.Reads as reads
-use Rattle.counting.proofs.counters.shift.Lts as lts
-use Rattle.asp.proofs.table.number_at.Reads as number-at-reads
-use Rattle.counting.proofs.counters.lower_all.Reads as lower-all-reads
-use Rattle.counting.proofs.counters.raise_all.Reads as raise-all-reads
 
 -- src/counters.rt:144:9
 number-at-requires : tie.Need-number-at-requires
