@@ -210,7 +210,7 @@ module _ (P : Problem) where
   pub good-advance : (t : Trail) (ms : List ℕ) (x : Verdict) → Says t x → GoodTrail t ms → Good (advanceBy x t ms)
   good-advance t ms (open′ l) r g = record { formed = (r .1, r .2, g .formed); short = r .0; tried = g .tried; distinct = g .distinct; assumed = g .assumed }
   good-advance t ms (conflict b) r g =
-      good-cut t b ms (blame b ms) r (λ Q a. blame-all Q b ms a) (blame-distinct b ms (g .distinct)) (blame-keeps Assumed b ms (conflict-assumed t b r) (g .assumed)) g
+      good-cut t b ms _ r (λ Q a. blame-all Q b ms a) (blame-distinct b ms (g .distinct)) (blame-keeps Assumed b ms (conflict-assumed t b r) (g .assumed)) g
   good-advance t ms wanted r g = r
 
   -- ---- the count: k steps were made at most, as the trail says
