@@ -20,7 +20,7 @@ use Rattle.cores.specs.Sums.{sumOver}
 use Rattle.cores.specs.Soft.{Kind, entry, derived, coreNumber, coreOf, kindAt, countBy, judge, violated, Earlier, InOrder}
 use Rattle.cores.specs.declared.judge.Judged.{Judged}
 use Rattle.cores.specs.declared.judge.Judged.the-variants.{Met, Violated}
-use Rattle.cores.specs.Judging.{Judging, judging, kindFrom, kindIn, kindsIn, membersIn, coresIn, violatedAt, countIn, FormedJudging, Known, IsCounted, Stays, Answers, Counts, firstViolated}
+use Rattle.cores.specs.Judging.{Judging, judging, kindFrom, kindIn, kindsIn, membersIn, coresIn, violatedAt, countIn, FormedJudging, Known, IsCounted, Stays, Answers, CountAnswers, firstViolated}
 use Rattle.cores.proofs.Sums.{below-or}
 use Rattle.cores.proofs.Judgements.{unfolds}
 use Rattle.cores.proofs.Members.{at-all, all-at}
@@ -113,7 +113,7 @@ module _ {t : Judging} {M : Set} {p : ℕ} where
       → {r : Bool} → r ≡ holds M (getD (t .literals) p (pos 0)) → Answers t M counts r (violatedAt t M p) counts
   judge-entry f k h ej z e = record { is = e ∙ sym (entry-in t f M p h (sym ej ∙ z)); known = k; stays = λ i w. w }
 
-  pub judge-derived : FormedJudging t → p < length (t .literals) → {j : ℕ} → j ≡ getD (t .cores) p 0 → (j ≡ 0 → ⊥) → {n : ℕ} {before after : List ℕ} → Counts t M before n j after
+  pub judge-derived : FormedJudging t → p < length (t .literals) → {j : ℕ} → j ≡ getD (t .cores) p 0 → (j ≡ 0 → ⊥) → {n : ℕ} {before after : List ℕ} → CountAnswers t M before n j after
       → {i : ℕ} → i ≡ getD (t .indices) p 0 → Answers t M before (ltb i n) (violatedAt t M p) after
   judge-derived f h {j} ej z {n} {before} {after} a {i} ei = record {
     is = ap₂ ltb ei (a .is ∙ ap (countIn t M) ej) ∙ sym (derived-in t f M p h (λ q. z (ej ∙ q)));
@@ -152,7 +152,7 @@ count-start {t} {M} f {counts} o {j} l h {e} ee {k} ek = record {
 }
 
 -- the count that is kept
-pub count-old : {t : Judging} {M : Set} {counts : List ℕ} → Known t M counts → (j : ℕ) {o : ℕ} → o ≡ getD counts j 0 → (o ≡ 0 → ⊥) → Counts t M counts (o - 1) j counts
+pub count-old : {t : Judging} {M : Set} {counts : List ℕ} → Known t M counts → (j : ℕ) {o : ℕ} → o ≡ getD counts j 0 → (o ≡ 0 → ⊥) → CountAnswers t M counts (o - 1) j counts
 count-old {t} {M} {counts} k j {o} e z =
     let q : getD counts j 0 ≡ countIn t M j + 1 = k .kept j (λ w. z (e ∙ w)) in
     record { is = omega arith; known = k; stays = λ i w. w; counted = λ w. z (e ∙ w) }
@@ -226,7 +226,7 @@ module _ {t : Judging} {M : Set} {j e : ℕ} {before counts : List ℕ} {k n : �
   pub count-few : Counting t M j e before counts k n → FormedJudging t → n ≤ 4096
   count-few c f = omega (arith, c .few, c .inside, f .few)
 
-  pub count-end : Counting t M j e before counts k n → FormedJudging t → j < length (t .ends) → e ≤ k → {after : List ℕ} → after ≡ set counts j (n + 1) → Counts t M before n j after
+  pub count-end : Counting t M j e before counts k n → FormedJudging t → j < length (t .ends) → e ≤ k → {after : List ℕ} → after ≡ set counts j (n + 1) → CountAnswers t M before n j after
   count-end c f h l {after} ea =
       let q : n ≡ countIn t M j = omega (arith, c .rest, count-none (violatedAt t M) (t .members) k e l) in
       let i : j < length counts = omega (arith, f .ends-few, c .known .long) in

@@ -22,7 +22,7 @@ use Rattle.cores.specs.Soft.{violated, InOrder}
 use Rattle.cores.specs.Level.{Level, weighty, opened, greatest, under, assumedFrom, assumed, recorded, fewer, coreFits, room, FormedEntries}
 use Rattle.cores.specs.Identity.{Problem, problem, Good, Core, violatedWeight, remaining}
 use Rattle.cores.specs.Judging.{firstViolated}
-use Rattle.cores.specs.Columns.{Listed, listedPlaces, assumedOf, Pairs, entryColumns}
+use Rattle.cores.specs.Columns.{ListedPlaces, listedPlaces, assumedOf, Pairs, entryColumns}
 use Rattle.cores.specs.Tables.{entrySoft, emptyTables, Tried, softsOf, openedTables, heldIn, recordedTables, Counted, Room, triedTables, tried, levelOf, FormedTables, SoundTables}
 use Rattle.cores.proofs.Sums.{members-weigh, wsum-replicate-one}
 use Rattle.cores.proofs.Judgements.{all-map}

@@ -17,7 +17,7 @@ use Rattle.asp.specs.Stable.{keep}
 use Rattle.cores.specs.declared.soft.Soft.{Soft}
 use Rattle.cores.specs.Level.{under, assumedFrom}
 use Rattle.cores.specs.Tables.{noSoft}
-use Rattle.cores.specs.Columns.{Columns, columns, putColumns, unpackedFrom, unpackedOf, restsOf, raisedBy, Listed, listedPlaces, assumedOf, entriesAmong, Pairs, pairs, putPair, Paired, paired, putEntry, entryColumns}
+use Rattle.cores.specs.Columns.{Columns, columns, putColumns, unpackedFrom, unpackedOf, restsOf, raisedBy, ListedPlaces, listedPlaces, assumedOf, entriesAmong, Pairs, pairs, putPair, Paired, paired, putEntry, entryColumns}
 use Rattle.cores.proofs.Members.{all-at}
 use Rattle.cores.proofs.Strata.{assumed-yes, assumed-no}
 
@@ -109,7 +109,7 @@ module _ (s : ℕ) (ss : List Soft) (n : ℕ) {best i : ℕ} where
 -- ---- the assumed places
 
 -- the list xs is still to be put from place n on
-abbrev toCome : List ℕ → ℕ → List ℕ → Listed
+abbrev toCome : List ℕ → ℕ → List ℕ → ListedPlaces
 toCome ps n xs = listedPlaces (sets ps n xs) (n + length xs)
 
 put-one : (ps : List ℕ) (n x : ℕ) (xs : List ℕ) → toCome ps n (x ∷ xs) ≡ toCome (set ps n x) (n + 1) xs

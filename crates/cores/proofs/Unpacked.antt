@@ -19,7 +19,7 @@ use Rattle.cores.specs.Sums.{wsum}
 use Rattle.cores.specs.Identity.{violatedWeight}
 use Rattle.cores.specs.Soft.{Kind, entry, coreNumber, coreOf, kindAt, violated, Earlier, InOrder}
 use Rattle.cores.specs.Judging.{Judging, judging, kindFrom, kindIn, kindsIn, membersIn, coresIn, violatedAt, FormedJudging}
-use Rattle.cores.specs.Tables.{noSoft, heldIn, kindOf, levelOf, FormedTables, SoundTables, levelJudging, Filled}
+use Rattle.cores.specs.Tables.{noSoft, heldIn, kindOf, levelOf, FormedTables, SoundTables, levelJudging, FilledColumns}
 use Rattle.cores.specs.Columns.{Columns, columns, Long, putColumns, unpackedFrom, unpackedOf}
 use Rattle.cores.proofs.Sums.{below-or, wsum-ext}
 use Rattle.cores.proofs.Members.{all-at}
@@ -78,8 +78,8 @@ unpacked-long i (r ∷ rs) c l =
     })
 
 -- WHAT UNPACKING LEAVES IN THE ARRAYS
-pub filled-by : {t : LevelTables} → FormedTables t → {c₀ : Columns} → Long c₀ → {c : Columns} → c ≡ unpackedOf (t .softs) (t .count) c₀ → Filled t c
-filled-by {t} f {c₀} l {c} e = subst (Filled t) (sym e) (record {
+pub filled-by : {t : LevelTables} → FormedTables t → {c₀ : Columns} → Long c₀ → {c : Columns} → c ≡ unpackedOf (t .softs) (t .count) c₀ → FilledColumns t c
+filled-by {t} f {c₀} l {c} e = subst (FilledColumns t) (sym e) (record {
   long = unpacked-long 0 S c₀ l;
   literals = ap (take (t .count)) (unpacked-literals 0 S c₀) ∙ front (c₀ .literals) (map literalOf S) (t .count) (length-map S literalOf ∙ n) (omega (arith, f .softs-few, l .literals));
   cores = ap (take (t .count)) (unpacked-cores 0 S c₀) ∙ front (c₀ .cores) (map coreIx S) (t .count) (length-map S coreIx ∙ n) (omega (arith, f .softs-few, l .cores));
@@ -217,23 +217,23 @@ module _ (t : LevelTables) (c : Columns) where
   abbrev pub cutJudging : Judging
   cutJudging = judging (take (t .count) (c .literals)) (take (t .count) (c .cores)) (take (t .count) (c .indices)) (take (t .cores + 1) (t .ends)) (take (heldIn t) (t .members))
 
-  pub cut-is : Filled t c → cutJudging ≡ levelJudging t
+  pub cut-is : FilledColumns t c → cutJudging ≡ levelJudging t
   cut-is q =
       ap (λ (ls : List ℤ). judging ls (take (t .count) (c .cores)) (take (t .count) (c .indices)) (take (t .cores + 1) (t .ends)) (take (heldIn t) (t .members))) (q .literals)
       ∙ ap₂ (λ (js is : List ℕ). judging (levelJudging t .literals) js is (take (t .cores + 1) (t .ends)) (take (heldIn t) (t .members))) (q .cores) (q .indices)
 
   -- THE ARRAYS ARE IN SHAPE, AND JUDGING BY THEM IS JUDGING ON THE LEVEL
-  pub cut-formed : SoundTables t → Filled t c → FormedJudging cutJudging
+  pub cut-formed : SoundTables t → FilledColumns t c → FormedJudging cutJudging
   cut-formed s q = subst FormedJudging (sym (cut-is q)) (judging-formed t (s .formed) (s .ordered))
 
-  pub cut-violated : SoundTables t → Filled t c → (M : Set) (p : ℕ) → violatedAt cutJudging M p ≡ violated M (levelOf t .kinds) (levelOf t .cores) p
+  pub cut-violated : SoundTables t → FilledColumns t c → (M : Set) (p : ℕ) → violatedAt cutJudging M p ≡ violated M (levelOf t .kinds) (levelOf t .cores) p
   cut-violated s q M p = ap (λ (j : Judging). violatedAt j M p) (cut-is q) ∙ judging-level t (s .formed) M p
 
-  pub cut-length : SoundTables t → Filled t c → length (cutJudging .literals) ≡ t .count
+  pub cut-length : SoundTables t → FilledColumns t c → length (cutJudging .literals) ≡ t .count
   cut-length s q = ap length (q .literals) ∙ length-map (take (t .count) (t .softs)) literalOf ∙ length-take-le (t .count) (t .softs) (omega (arith, s .formed .softs-len, s .formed .softs-few))
 
 -- what the code asks where it cuts them
-module _ {t : LevelTables} (s : SoundTables t) {ls : List ℤ} {js is ws : List ℕ} (q : Filled t (columns ls js is ws)) where
+module _ {t : LevelTables} (s : SoundTables t) {ls : List ℤ} {js is ws : List ℕ} (q : FilledColumns t (columns ls js is ws)) where
   pub reach-literals : t .count ≤ length ls
   reach-literals = omega (arith, s .formed .softs-few, q .long .literals)
 

@@ -51,15 +51,15 @@ abbrev pub raisedBy : ℕ → ℕ → ℕ → ℕ
 raisedBy s w best = pick (ltb w s) (max w best) best
 
 -- a table of places, and how many of them are filled
-pub record Listed : Type 0 where
+pub record ListedPlaces : Type 0 where
   pub places : List ℕ
   pub count : ℕ
 
-abbrev pub listedPlaces : List ℕ → ℕ → Listed
+abbrev pub listedPlaces : List ℕ → ℕ → ListedPlaces
 listedPlaces ps n = record { places = ps; count = n }
 
 -- "A question assumes the wishes with remaining weight at least the stratum."
-abbrev pub assumedOf : ℕ → List ℕ → List ℕ → Listed
+abbrev pub assumedOf : ℕ → List ℕ → List ℕ → ListedPlaces
 assumedOf s ws ps = listedPlaces (sets ps 0 (assumedFrom s 0 ws)) (length (assumedFrom s 0 ws))
 
 -- those of the places that are an entry's: core 0

@@ -79,7 +79,7 @@ pub record Answers {A : Type 0} (t : Judging) (M : Set) (before : List ℕ) (r e
   pub stays : Stays before after
 
 -- what counting core j answers: then it is counted
-pub record Counts (t : Judging) (M : Set) (before : List ℕ) (n j : ℕ) (after : List ℕ) : Type 0 where
+pub record CountAnswers (t : Judging) (M : Set) (before : List ℕ) (n j : ℕ) (after : List ℕ) : Type 0 where
   pub is : n ≡ countIn t M j
   pub known : Known t M after
   pub stays : Stays before after

@@ -141,7 +141,7 @@ levelJudging t =
     (map (λ (r : Soft). r .index) (take (t .count) (t .softs))) (take (t .cores + 1) (t .ends)) (take (heldIn t) (t .members))
 
 -- arrays whose fronts are the columns of the tables
-pub record Filled (t : LevelTables) (c : Columns) : Type 0 where
+pub record FilledColumns (t : LevelTables) (c : Columns) : Type 0 where
   pub long : Long c
   pub literals : take (t .count) (c .literals) ≡ levelJudging t .literals
   pub cores : take (t .count) (c .cores) ≡ levelJudging t .cores

@@ -8,7 +8,7 @@ ghost use lib.ListN.{length, getD, set};
 ghost use Rattle.asp.specs.Program.{All};
 ghost use Rattle.asp.specs.Sets.{setOf};
 ghost use Rattle.asp.specs.Stable.{holds};
-ghost use Rattle.cores.specs.Judging.{judging, violatedAt, FormedJudging, Known, Answers, Counts, firstViolated};
+ghost use Rattle.cores.specs.Judging.{judging, violatedAt, FormedJudging, Known, Answers, CountAnswers, firstViolated};
 use crate::table::at;
 
 // What is found in a list of places: the first that is violated.
@@ -76,7 +76,7 @@ pub fn count<'a>(
     requires { ⌜ (1 ≤ j) × (j < length (now ends)) ⌝ }
     requires { ⌜ 1024 < length (now model) ⌝ }
     requires { ⌜ Known (judging (now literals) (now cores) (now indices) (now ends) (now members)) (setOf (now model)) (now counts) ⌝ }
-    ensures { λ r. ⌜ Counts (judging (now (literals .entry)) (now (cores .entry)) (now (indices .entry)) (now (ends .entry)) (now (members .entry))) (setOf (now (model .entry))) (now (counts .entry)) r j (now (counts .exit)) ⌝ }
+    ensures { λ r. ⌜ CountAnswers (judging (now (literals .entry)) (now (cores .entry)) (now (indices .entry)) (now (ends .entry)) (now (members .entry))) (setOf (now (model .entry))) (now (counts .entry)) r j (now (counts .exit)) ⌝ }
 {
     let old = at(counts, j);
     if old != 0 {

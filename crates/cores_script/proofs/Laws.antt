@@ -20,7 +20,7 @@ use mir.Facts.{toZ-ofZ}
 use Rattle.cores.specs.Level.{FormedEntries, assumedFrom}
 use Rattle.cores.specs.declared.level.LevelTables.{LevelTables}
 use Rattle.cores.specs.Tables.{emptyTables, openedTables, SoundTables}
-use Rattle.cores.specs.Columns.{Listed, listedPlaces, assumedOf}
+use Rattle.cores.specs.Columns.{ListedPlaces, listedPlaces, assumedOf}
 use Rattle.cores.proofs.Sums.{below-or}
 use Rattle.cores.proofs.Members.{at-all}
 use Rattle.cores.proofs.Spans.{length-span}
@@ -151,4 +151,4 @@ fine-fresh e = record {
 -- ---- the list of assumed places, as an array
 
 pub assumed-long : (s : ℕ) (ws ps : List ℕ) {qs : List ℕ} {n : ℕ} → listedPlaces qs n ≡ assumedOf s ws ps → length ps ≡ 4096 → length qs ≡ 4096
-assumed-long s ws ps {qs} {n} e h = ap (λ (l : Listed). length (l .places)) e ∙ length-sets ps 0 (assumedFrom s 0 ws) ∙ h
+assumed-long s ws ps {qs} {n} e h = ap (λ (l : ListedPlaces). length (l .places)) e ∙ length-sets ps 0 (assumedFrom s 0 ws) ∙ h

@@ -11,9 +11,9 @@ use lib.Seq.{sets, length-sets}
 use Rattle.cores.specs.Level.{assumedFrom}
 use Rattle.cores.specs.Judging.{Judging, judging}
 use Rattle.asp.specs.Stable.{keep}
-use Rattle.cores.specs.Columns.{Columns, Listed, listedPlaces, assumedOf, entriesAmong, Pairs, pairs, Paired, paired, entryColumns}
+use Rattle.cores.specs.Columns.{Columns, ListedPlaces, listedPlaces, assumedOf, entriesAmong, Pairs, pairs, Paired, paired, entryColumns}
 use Rattle.cores.proofs.Strata.{assumed-length}
-use Rattle.cores.specs.Tables.{Filled}
+use Rattle.cores.specs.Tables.{FilledColumns}
 use Rattle.cores.specs.declared.level.LevelTables.{LevelTables}
 use Rattle.cores.proofs.Unpacked.{cutJudging, cut-is}
 use Rattle.cores.proofs.Kept.{assumed-front, entries-front, wishes-front}
@@ -34,14 +34,14 @@ module _ (s : ℕ) (ws : List ℕ) {qs : List ℕ} {m : ℕ} (h : length ws ≤ 
   few = omega (arith, assumed-length s 0 ws, h)
 
   pub assumed-is : take m qs ≡ assumedFrom s 0 ws
-  assumed-is = ap (λ (l : Listed). take (l .count) (l .places)) e ∙ assumed-front s ws (replicate 4096 0) (rw (length-replicate {A = ℕ} 4096 0) few)
+  assumed-is = ap (λ (l : ListedPlaces). take (l .count) (l .places)) e ∙ assumed-front s ws (replicate 4096 0) (rw (length-replicate {A = ℕ} 4096 0) few)
 
   pub assumed-many : length (take m qs) ≤ 4096
   assumed-many = rw assumed-is few
 
   pub assumed-reach : m ≤ length qs
   assumed-reach =
-      omega (arith, few, ap (λ (l : Listed). l .count) e, ap (λ (l : Listed). length (l .places)) e ∙ length-sets (replicate 4096 0) 0 (assumedFrom s 0 ws) ∙ length-replicate {A = ℕ} 4096 0)
+      omega (arith, few, ap (λ (l : ListedPlaces). l .count) e, ap (λ (l : ListedPlaces). length (l .places)) e ∙ length-sets (replicate 4096 0) 0 (assumedFrom s 0 ws) ∙ length-replicate {A = ℕ} 4096 0)
 
   -- `entries` of what it left, into zeros
   module _ (ls : List ℤ) (js : List ℕ) {ps : List ℕ} {os : List ℤ} {k : ℕ} (e₂ : paired (pairs ps os) k ≡ entryColumns ls (entriesAmong js (take m qs)) (pairs (replicate 4096 0) (replicate 4096 (pos 0)))) where
@@ -73,6 +73,6 @@ module _ (s : ℕ) (ws : List ℕ) {qs : List ℕ} {m : ℕ} (h : length ws ≤ 
         ∙ ap (λ (a : List ℕ). queryTables level lowers (map (λ (p : ℕ). negℤ (getD ls p (pos 0))) (entriesAmong js a)) (entriesAmong js a) a (judging ls js is es ms)) assumed-is
 
 -- the query of the level's tables is that of its columns
-pub columns-query : (t : LevelTables) (c : Columns) → Filled t c → (level s : ℕ) (lowers : List ℕ) → queryBy level lowers (cutJudging t c) (take (t .count) (c .weights)) s ≡ queryOf level lowers t s
+pub columns-query : (t : LevelTables) (c : Columns) → FilledColumns t c → (level s : ℕ) (lowers : List ℕ) → queryBy level lowers (cutJudging t c) (take (t .count) (c .weights)) s ≡ queryOf level lowers t s
 unfolding queryOf
 columns-query t c q level s lowers = ap₂ (λ (j : Judging) (r : List ℕ). queryBy level lowers j r s) (cut-is t c q) (q .weights)

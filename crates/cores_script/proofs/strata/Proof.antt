@@ -2,7 +2,7 @@
 -- Assumes nothing.
 use borrow.Author.Needs.{needs}
 use Rattle.cores.specs.Columns.{columns}
-use Rattle.cores.specs.Tables.{SoundTables, Filled}
+use Rattle.cores.specs.Tables.{SoundTables, FilledColumns}
 use Rattle.cores.proofs.Columns.{small-at}
 use Rattle.cores.proofs.Unpacked.{cut-formed, filled-by, zeros-long, reach-literals, reach-cores, reach-weights, same-many, same-cores, few-many, cut-long}
 use Rattle.cores_script.proofs.strata.Statement.{statement}
@@ -12,7 +12,7 @@ sound : (c : tie.After-unpack) → SoundTables (c .before .before .before .befor
 sound c = c .before .before .before .before .before .before .pre
 
 filled : (c : tie.After-unpack)
-    → Filled (c .before .before .before .before .before .before .args .t) (columns (c .unpack .last .1 .1 .0) (c .unpack .last .1 .1 .1 .0) (c .unpack .last .1 .1 .1 .1 .0) (c .unpack .last .1 .1 .1 .1 .1 .0))
+    → FilledColumns (c .before .before .before .before .before .before .args .t) (columns (c .unpack .last .1 .1 .0) (c .unpack .last .1 .1 .1 .0) (c .unpack .last .1 .1 .1 .1 .0) (c .unpack .last .1 .1 .1 .1 .1 .0))
 filled c = filled-by (sound c .formed) zeros-long (c .unpack .ensures)
 
 unpack-requires : tie.Need-unpack-requires
