@@ -3,8 +3,8 @@ use mathlib.Core.Path.{_≡_, refl, sym, ap, ap₂, _∙_, subst}
 use mathlib.Core.Logic.{_⊎_, inl, inr}
 use mathlib.Core.Bool.{Bool, true, false}
 use mathlib.Core.List.{List, [], _∷_, _++_}
-use Prim.Native.Nat.{ℕ, zero, suc, _+_, _-_, _*_, _≤_, _<_, zero-le}
-use native.Mathlib.Nat.{zero-add, add-zero}
+use Prim.Native.Nat.{ℕ, zero, suc, _+_, _-_, _≤_, _<_, zero-le}
+use native.Mathlib.Nat.{zero-add}
 use native.Mathlib.Numerals.{add-one}
 use native.Mathlib.Omega.{arith}
 use lib.Dec.{eqb, ltb}
@@ -15,9 +15,7 @@ use borrow.Author.Tests.{eq-eqb, ne-eqb, eqb-true, eqb-false}
 use Rattle.asp.specs.Sets.{Set, pick, ind}
 use Rattle.asp.specs.Program.{All}
 use Rattle.asp.specs.Stable.{holds}
-use Rattle.asp.specs.Tables.{span}
-use Rattle.cores.specs.Sums.{sumOver}
-use Rattle.cores.specs.Soft.{Kind, entry, derived, coreNumber, coreOf, kindAt, countBy, judge, violated, Earlier, InOrder}
+use Rattle.cores.specs.Soft.{Kind, entry, derived, coreNumber, coreOf, kindAt, countBy, judge, Earlier, InOrder}
 use Rattle.cores.specs.declared.judge.Judged.{Judged}
 use Rattle.cores.specs.declared.judge.Judged.the-variants.{Met, Violated}
 use Rattle.cores.specs.Judging.{Judging, judging, kindFrom, kindIn, kindsIn, membersIn, coresIn, violatedAt, countIn, FormedJudging, Known, IsCounted, Stays, Answers, CountAnswers, firstViolated}

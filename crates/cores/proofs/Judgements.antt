@@ -1,17 +1,15 @@
 -- Judging soft literals: the unfolding law, that nothing else obeys it, and that what is appended changes no earlier judgement. Assumes nothing.
-use mathlib.Core.Path.{_≡_, refl, sym, ap, _∙_, subst}
-use mathlib.Core.Bool.{Bool, true, false, not}
+use mathlib.Core.Path.{_≡_, refl, sym, ap, _∙_}
+use mathlib.Core.Bool.{Bool, false}
 use mathlib.Core.List.{List, [], _∷_, _++_}
-use Prim.Native.Nat.{ℕ, zero, suc, _+_, _-_, _*_, _≤_, _<_, zero-le, suc-le-suc}
-use native.Mathlib.Nat.{add-zero, add-suc, zero-add, suc-add, le-refl, le-trans, le-of-suc-le-suc, not-suc-le-zero}
+use Prim.Native.Nat.{ℕ, zero, suc, _+_, _-_, _≤_, _<_}
+use native.Mathlib.Nat.{add-zero, add-suc, le-trans, le-of-suc-le-suc, not-suc-le-zero}
 use native.Mathlib.Omega.{arith}
 use lib.IntN.{pos}
-use lib.ListN.{length, getD, length-append, List·getD-append}
-use lib.Dec.{ltb}
+use lib.ListN.{length, length-append, List·getD-append}
 use Rattle.asp.specs.Sets.{Set, ind}
 use Rattle.asp.specs.Program.{All}
-use Rattle.cores.specs.Sums.{sumOver}
-use Rattle.cores.specs.Soft.{Kind, entry, derived, coreNumber, coreOf, kindAt, countBy, judge, judged, violated, Earlier, InOrder}
+use Rattle.cores.specs.Soft.{Kind, entry, derived, coreNumber, coreOf, kindAt, judge, judged, violated, InOrder}
 use Rattle.cores.proofs.Sums.{count-ext}
 
 -- ---- more depth changes nothing

@@ -1,38 +1,35 @@
 -- What crate `optimizer` needs at each point: the tables stay sound, the bounds stay small, and what a query's answer says. Assumes nothing.
-use mathlib.Core.Path.{_≡_, refl, sym, ap, ap₂, _∙_, subst}
+use mathlib.Core.Path.{_≡_, refl, sym, ap, _∙_, subst}
 use mathlib.Core.Bool.{Bool, true, false}
-use mathlib.Core.List.{List, [], _∷_, _++_, map}
-use Prim.Native.Nat.{ℕ, zero, suc, _+_, _-_, _*_, _≤_, _<_, zero-le, suc-le-suc}
-use native.Mathlib.Nat.{zero-add, not-suc-le-zero}
+use mathlib.Core.List.{List, [], _∷_, map}
+use Prim.Native.Nat.{ℕ, _+_, _-_, _*_, _≤_, _<_, zero-le}
+use native.Mathlib.Nat.{zero-add}
 use native.Mathlib.Omega.{arith}
-use lib.Dec.{ltb, leb}
+use lib.Dec.{ltb}
 use lib.IntN.{ℤ, pos, natAbs, negℤ}
 use lib.ListN.{length, getD, take, replicate, length-map, length-replicate, getD-replicate}
 use lib.Seq.{sets}
-use borrow.Author.Tests.{ltb-true, ltb-false}
-use Rattle.asp.specs.Sets.{Set, pick, ind}
+use Rattle.asp.specs.Sets.{pick}
 use Rattle.asp.specs.Literal.{sameℤ}
 use Rattle.asp.specs.Program.{Entry, All}
-use Rattle.asp.specs.Cost.{total, cost, weight, level}
+use Rattle.asp.specs.Cost.{total, weight, level}
 use Rattle.cores.specs.declared.level.LevelTables.{LevelTables}
-use Rattle.cores.specs.declared.judge.Judged.{Judged}
 use Rattle.cores.specs.declared.judge.Judged.the-variants.{Met, Violated}
-use Rattle.cores.specs.Sums.{wsum, Distinct, Holds}
-use Rattle.cores.specs.Soft.{violated, InOrder}
-use Rattle.cores.specs.Level.{Level, weighty, opened, greatest, under, assumedFrom, assumed, recorded, fewer, coreFits, room, FormedEntries}
-use Rattle.cores.specs.Identity.{Problem, problem, Good, Core, violatedWeight, remaining}
+use Rattle.cores.specs.Sums.{Distinct, Holds}
+use Rattle.cores.specs.Soft.{InOrder}
+use Rattle.cores.specs.Level.{Level, weighty, opened, greatest, under, assumedFrom, recorded, fewer, coreFits, FormedEntries}
+use Rattle.cores.specs.Identity.{Problem, Good, Core}
 use Rattle.cores.specs.Judging.{firstViolated}
-use Rattle.cores.specs.Columns.{ListedPlaces, listedPlaces, assumedOf, Pairs, entryColumns}
-use Rattle.cores.specs.Tables.{entrySoft, emptyTables, Tried, softsOf, openedTables, heldIn, recordedTables, Counted, Room, triedTables, tried, levelOf, FormedTables, SoundTables}
+use Rattle.cores.specs.Columns.{assumedOf, Pairs, entryColumns}
+use Rattle.cores.specs.Tables.{entrySoft, emptyTables, Tried, softsOf, openedTables, heldIn, recordedTables, Counted, Room, triedTables, tried, levelOf, SoundTables}
 use Rattle.cores.proofs.Sums.{members-weigh, wsum-replicate-one}
 use Rattle.cores.proofs.Judgements.{all-map}
 use Rattle.cores.proofs.Record.{in-order}
-use Rattle.cores.proofs.Open.{opened-good, weights-sum, length-weighty, length-level}
-use Rattle.cores.proofs.Strata.{greatest-le, under-none, under-all, every-assumed}
+use Rattle.cores.proofs.Open.{opened-good, length-weighty, length-level}
+use Rattle.cores.proofs.Strata.{under-all}
 use Rattle.cores.proofs.Limits.{lower-within}
-use Rattle.cores.proofs.Members.{all-at}
 use Rattle.cores.proofs.Loops.{try-room}
-use Rattle.cores.proofs.Links.{kinds-count, rests-count, cores-count, fits-room, counted, opened-level, opened-formed, recorded-level, recorded-formed, take-sets}
+use Rattle.cores.proofs.Links.{kinds-count, rests-count, counted, opened-level, opened-formed, recorded-level, recorded-formed, take-sets}
 
 -- ---- entries
 

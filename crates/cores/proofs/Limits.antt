@@ -1,23 +1,21 @@
 -- The limits of the tables over any sequence of cores, the count of queries, and the end. Assumes nothing.
-use mathlib.Core.Path.{_≡_, refl, sym, ap, _∙_, subst}
-use mathlib.Core.Bool.{Bool, true, false, not, _&&_}
-use mathlib.Core.List.{List, [], _∷_, _++_, map}
-use Prim.Native.Nat.{ℕ, zero, suc, _+_, _-_, _*_, _≤_, _<_, zero-le, suc-le-suc}
-use native.Mathlib.Nat.{le-trans, le-of-suc-le-suc, not-suc-le-zero, mul-le-mul-right}
+use mathlib.Core.Path.{_≡_, refl, ap, _∙_}
+use mathlib.Core.Bool.{true, false}
+use mathlib.Core.List.{List, [], _∷_, _++_}
+use Prim.Native.Nat.{ℕ, zero, suc, _+_, _-_, _≤_, _<_, zero-le, suc-le-suc}
+use native.Mathlib.Nat.{le-of-suc-le-suc, not-suc-le-zero, mul-le-mul-right}
 use native.Mathlib.Omega.{arith}
 use borrow.Author.Tests.{le-leb}
-use lib.Dec.{leb}
 use lib.ListN.{length, getD, replicate, length-replicate, length-append}
 use Rattle.asp.specs.Sets.{Set, ind}
 use Rattle.asp.specs.Program.{Entry}
 use Rattle.asp.specs.Cost.{weight}
 use Rattle.cores.specs.Sums.{wsum, lose}
 use Rattle.cores.specs.Soft.{violated}
-use Rattle.cores.specs.Level.{Level, weighty, opened, under, recorded, fewer, held, coreFits, room}
+use Rattle.cores.specs.Level.{Level, weighty, opened, recorded, fewer, held, room}
 use Rattle.cores.specs.Identity.{Problem, Good, Core, remaining}
 use Rattle.cores.proofs.Sums.{wsum-none, length-lose, members-weigh, each-weighs}
 use Rattle.cores.proofs.Record.{fewer-is, kept}
-use Rattle.cores.proofs.Strata.{under-lt}
 use Rattle.cores.proofs.Open.{weightsOf, weights-sum, weights-some}
 
 -- ---- 1 + 2 + .. + n, and 0 + 1 + .. + (n - 1)
@@ -80,10 +78,6 @@ module _ (P : Problem) where
 
     falls : remaining (recorded l s ms) + s ≡ remaining l
     falls = omega (arith, g .weighs, kept P l s ms g c .weighs)
-
-    -- the k-th core has at most whole + 1 - k members
-    pub kth : Fits l → length ms + suc (length (l .cores)) ≤ suc whole
-    kth f = omega (arith, few, g .weighs, f .cores-fit)
 
     pub fits-kept : Fits l → Fits (recorded l s ms)
     fits-kept f = record {

@@ -1,15 +1,14 @@
 -- From the code's tables to the level that they mean: opening, recording, the limits. Assumes nothing.
-use mathlib.Core.Path.{_≡_, refl, sym, ap, ap₂, _∙_, subst}
-use mathlib.Core.Logic.{_≢_, _⊎_, inl, inr}
-use mathlib.Core.Bool.{Bool, true, false}
+use mathlib.Core.Path.{_≡_, refl, sym, ap, ap₂, _∙_}
+use mathlib.Core.Logic.{_⊎_, inl, inr}
+use mathlib.Core.Bool.{Bool}
 use mathlib.Core.List.{List, [], _∷_, _++_, map}
-use Prim.Native.Nat.{ℕ, zero, suc, _+_, _-_, _*_, _≤_, _<_, zero-le, suc-le-suc}
-use native.Mathlib.Nat.{add-zero, zero-add, le-of-suc-le-suc, not-suc-le-zero}
+use Prim.Native.Nat.{ℕ, zero, suc, _+_, _-_, _≤_, _<_, zero-le}
+use native.Mathlib.Nat.{zero-add, not-suc-le-zero}
 use native.Mathlib.Numerals.{add-one}
 use native.Mathlib.Omega.{arith}
-use lib.Dec.{eqb}
-use lib.IntN.{ℤ, pos, natAbs}
-use lib.ListN.{length, getD, set, take, drop, replicate, length-append, length-take, length-set, length-replicate, length-map, List·getD-map, getD-replicate}
+use lib.IntN.{pos, natAbs}
+use lib.ListN.{length, getD, set, take, drop, replicate, length-append, length-set, length-replicate, length-map, List·getD-map}
 use lib.Seq.{sets, sets-eq, length-sets, slice, length-slice, take-at, drop-at, take-append-le, length-take-le, take-set-lt, getD-take, getD-set-same, getD-set-other, map-set-same, take-take, getD-append-add}
 use borrow.Author.Tests.{ne-eqb}
 use Rattle.asp.specs.Sets.{pick}
@@ -19,12 +18,12 @@ use Rattle.cores.specs.declared.soft.Soft.{Soft}
 use Rattle.cores.specs.declared.level.LevelTables.{LevelTables}
 use Rattle.cores.specs.Sums.{lose}
 use Rattle.cores.specs.Soft.{Kind, entry, derived}
-use Rattle.cores.specs.Level.{Level, weighty, opened, fewer, derivedFrom, recorded, held, coreFits, room}
-use Rattle.cores.specs.Judging.{kindFrom, membersIn}
-use Rattle.cores.specs.Tables.{noSoft, entrySoft, coreSoft, lighterBy, lighten, newSofts, softsOf, openedTables, heldIn, recordedTables, Counted, Room, kindOf, levelOf, FormedTables}
+use Rattle.cores.specs.Level.{weighty, opened, fewer, derivedFrom, recorded, held, coreFits, room}
+use Rattle.cores.specs.Judging.{membersIn}
+use Rattle.cores.specs.Tables.{noSoft, entrySoft, lighterBy, lighten, newSofts, softsOf, openedTables, heldIn, recordedTables, Counted, Room, kindOf, levelOf, FormedTables}
 use Rattle.cores.proofs.Sums.{below-or}
 use Rattle.cores.proofs.Limits.{held-append}
-use Rattle.cores.proofs.Members.{all-at, at-all}
+use Rattle.cores.proofs.Members.{all-at}
 use Rattle.cores.proofs.Spans.{span-ext, span-last, length-span}
 
 -- ---- lists

@@ -1,36 +1,15 @@
--- The members of a core, by place and by the list; the weights after they lost; tests that decide the conditions of a core. Assumes nothing.
-use mathlib.Core.Path.{_≡_, refl, sym, ap, ap₂, _∙_, subst}
+-- The members of a core, by place and by the list; tests that decide the conditions of a core. Assumes nothing.
+use mathlib.Core.Path.{subst}
 use mathlib.Core.Logic.{_≢_}
-use mathlib.Core.Bool.{Bool, true, false, not, _&&_}
-use mathlib.Core.List.{List, [], _∷_, _++_}
-use Prim.Native.Nat.{ℕ, zero, suc, _+_, _-_, _*_, _≤_, _<_, zero-le, suc-le-suc}
-use native.Mathlib.Nat.{le-of-suc-le-suc, not-suc-le-zero, mul-le-mul-left}
-use native.Mathlib.Omega.{arith}
-use lib.ListN.{length, getD, set, take}
-use lib.Seq.{take-suc, take-length, getD-set-same, getD-set-other}
+use mathlib.Core.Bool.{Bool, true, not, _&&_}
+use mathlib.Core.List.{List, [], _∷_}
+use Prim.Native.Nat.{ℕ, zero, suc, _-_, _<_, zero-le, suc-le-suc}
+use native.Mathlib.Nat.{le-of-suc-le-suc, not-suc-le-zero}
+use lib.ListN.{length, getD}
 use lib.Dec.{T, leb, ltb, eqb, leb→le, ltb→lt, eqb-refl, T-not}
 use mir.Facts.{and-yes}
 use Rattle.asp.specs.Program.{All}
-use Rattle.cores.specs.Sums.{wsum, sumOver, Out, Distinct, Holds, lose}
-
--- ---- the first i members: a turn of the loop that takes s from each
-
-pub lose-append : (s : ℕ) (ms ns ws : List ℕ) → lose s (ms ++ ns) ws ≡ lose s ns (lose s ms ws)
-lose-append s [] ns ws = refl
-lose-append s (m ∷ ms) ns ws = lose-append s ms ns (set ws m (getD ws m 0 - s))
-
-pub lose-turn : (s : ℕ) (ms ws : List ℕ) (i : ℕ) → i < length ms
-    → lose s (take (suc i) ms) ws ≡ set (lose s (take i ms) ws) (getD ms i 0) (getD (lose s (take i ms) ws) (getD ms i 0) 0 - s)
-lose-turn s ms ws i h = ap (λ (xs : List ℕ). lose s xs ws) (take-suc ms i 0 h) ∙ lose-append s (take i ms) (getD ms i 0 ∷ []) ws
-
-pub lose-done : (s : ℕ) (ms ws : List ℕ) → lose s (take (length ms) ms) ws ≡ lose s ms ws
-lose-done s ms ws = ap (λ (xs : List ℕ). lose s xs ws) (take-length ms)
-
--- ---- the weight at a position afterwards
-
-pub lose-out : (s : ℕ) (ms ws : List ℕ) (p : ℕ) → Out p ms → getD (lose s ms ws) p 0 ≡ getD ws p 0
-lose-out s [] ws p o = refl
-lose-out s (m ∷ ms) ws p o = lose-out s ms (set ws m (getD ws m 0 - s)) p (o .1) ∙ getD-set-other ws m p (getD ws m 0 - s) 0 (o .0)
+use Rattle.cores.specs.Sums.{Out, Distinct, Holds}
 
 -- ---- facts of each member, and facts of each place: what a loop gives is by places, what a proof goes down is by members
 

@@ -1,23 +1,23 @@
 -- A level is opened: what holds then. Assumes nothing.
 use mathlib.Core.Path.{_≡_, refl, sym, ap, _∙_, subst}
-use mathlib.Core.Bool.{Bool, true, false, not}
+use mathlib.Core.Bool.{Bool, true, false}
 use mathlib.Core.List.{List, [], _∷_, map}
-use Prim.Native.Nat.{ℕ, zero, suc, _+_, _*_, _≤_, _<_, zero-le, suc-le-suc}
+use Prim.Native.Nat.{ℕ, zero, suc, _+_, _*_, _≤_, _<_, zero-le}
 use native.Mathlib.Nat.{zero-add, not-suc-le-zero, le-of-suc-le-suc}
 use native.Mathlib.Omega.{arith}
 use borrow.Author.Tests.{ltb-true, ltb-false}
 use lib.Dec.{ltb}
 use lib.IntN.{ℤ, pos}
-use lib.ListN.{length, getD, length-map, List·getD-map}
+use lib.ListN.{length, getD, length-map}
 use Rattle.asp.specs.Sets.{Set, pick, ind}
 use Rattle.asp.specs.Literal.{sameℤ}
-use Rattle.asp.specs.Program.{Literal, Entry, All}
+use Rattle.asp.specs.Program.{Entry, All}
 use Rattle.asp.specs.Stable.{holds}
 use Rattle.asp.specs.Cost.{total, cost, weight, entryCost, level}
 use Rattle.cores.specs.Sums.{wsum}
 use Rattle.cores.specs.Soft.{Kind, entry, coreNumber, coreOf, kindAt, judge, violated, Earlier}
-use Rattle.cores.specs.Level.{Level, weighty, opened}
-use Rattle.cores.specs.Identity.{Problem, problem, Good, violatedWeight, remaining}
+use Rattle.cores.specs.Level.{weighty, opened}
+use Rattle.cores.specs.Identity.{problem, Good}
 use Rattle.cores.proofs.Sums.{wsum-ext}
 
 -- what an entry's soft literal is, and its weight
@@ -36,20 +36,6 @@ weighty-yes e es q = rw q
 weighty-no : (e : Entry) (es : List Entry) → ltb 0 (e .weight) ≡ false → weighty (e ∷ es) ≡ weighty es
 unfolding weighty
 weighty-no e es q = rw q
-
-pub weighty-step : (e : Entry) (es : List Entry) → 0 < e .weight → weighty (e ∷ es) ≡ e ∷ weighty es
-weighty-step e es h = go (ltb 0 (e .weight)) refl
-  where
-    go : (b : Bool) → ltb 0 (e .weight) ≡ b → weighty (e ∷ es) ≡ e ∷ weighty es
-    go true q = weighty-yes e es q
-    go false q = absurd (omega (arith, ltb-false 0 (e .weight) q))
-
-pub weighty-skip : (e : Entry) (es : List Entry) → e .weight ≤ 0 → weighty (e ∷ es) ≡ weighty es
-weighty-skip e es h = go (ltb 0 (e .weight)) refl
-  where
-    go : (b : Bool) → ltb 0 (e .weight) ≡ b → weighty (e ∷ es) ≡ weighty es
-    go true q = absurd (omega (arith, ltb-true 0 (e .weight) q))
-    go false q = weighty-no e es q
 
 -- by cases, with what the test says
 by-weight : (e : Entry) (es : List Entry) (P : List Entry → Type 0) → (1 ≤ e .weight → P (e ∷ weighty es)) → (e .weight ≡ 0 → P (weighty es)) → P (weighty (e ∷ es))

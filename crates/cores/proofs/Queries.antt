@@ -1,14 +1,14 @@
 -- What holds in the loops that prepare a query: one record for each loop, and its laws. Assumes nothing.
 use mathlib.Core.Path.{_≡_, refl, sym, ap, ap₂, _∙_}
-use mathlib.Core.Bool.{Bool, true, false, cond}
-use mathlib.Core.List.{List, [], _∷_, _++_, map}
-use Prim.Native.Nat.{ℕ, zero, suc, _+_, _-_, _*_, _≤_, _<_, max, zero-le}
+use mathlib.Core.Bool.{Bool, true, false}
+use mathlib.Core.List.{List, [], _∷_, map}
+use Prim.Native.Nat.{ℕ, _+_, _-_, _≤_, _<_, max, zero-le}
 use native.Mathlib.Nat.{add-zero, zero-add}
 use native.Mathlib.Numerals.{add-one}
 use native.Mathlib.Omega.{arith}
-use lib.Dec.{ltb, leb, eqb}
+use lib.Dec.{ltb, eqb}
 use lib.IntN.{ℤ, pos, negℤ}
-use lib.ListN.{length, getD, set, take, drop, length-take, length-set, length-map, List·getD-map, drop-of-length-le}
+use lib.ListN.{length, getD, set, take, drop, length-take, length-map, List·getD-map, drop-of-length-le}
 use lib.Seq.{drop-cons, sets, getD-take}
 use borrow.Author.Tests.{lt-ltb, le-ltb, eq-eqb, ne-eqb}
 use Rattle.asp.specs.Sets.{pick}
@@ -17,7 +17,7 @@ use Rattle.asp.specs.Stable.{keep}
 use Rattle.cores.specs.declared.soft.Soft.{Soft}
 use Rattle.cores.specs.Level.{under, assumedFrom}
 use Rattle.cores.specs.Tables.{noSoft}
-use Rattle.cores.specs.Columns.{Columns, columns, putColumns, unpackedFrom, unpackedOf, restsOf, raisedBy, ListedPlaces, listedPlaces, assumedOf, entriesAmong, Pairs, pairs, putPair, Paired, paired, putEntry, entryColumns}
+use Rattle.cores.specs.Columns.{Columns, putColumns, unpackedFrom, unpackedOf, restsOf, raisedBy, ListedPlaces, listedPlaces, assumedOf, entriesAmong, Pairs, pairs, putPair, Paired, paired, putEntry, entryColumns}
 use Rattle.cores.proofs.Members.{all-at}
 use Rattle.cores.proofs.Strata.{assumed-yes, assumed-no}
 

@@ -1,19 +1,19 @@
 -- A core is recorded: what is kept. Assumes nothing.
 use mathlib.Core.Path.{_≡_, refl, sym, ap, _∙_, subst}
 use mathlib.Core.Logic.{_⊎_, inl, inr}
-use mathlib.Core.Bool.{Bool, true, false, not}
+use mathlib.Core.Bool.{Bool, true, false}
 use mathlib.Core.List.{List, [], _∷_, _++_}
 use Prim.Native.Nat.{ℕ, zero, suc, _+_, _-_, _*_, _≤_, _<_, zero-le, suc-le-suc}
-use native.Mathlib.Nat.{add-zero, add-suc, zero-add, suc-add, le-refl, le-trans, le-of-suc-le-suc, not-suc-le-zero, add-sub-of-le}
+use native.Mathlib.Nat.{add-zero, suc-add, le-refl, le-of-suc-le-suc, not-suc-le-zero, add-sub-of-le}
 use native.Mathlib.Omega.{arith}
 use lib.IntN.{pos}
-use lib.ListN.{length, getD, replicate, length-replicate, length-append, List·getD-append, List·getD-eq-default}
+use lib.ListN.{length, replicate, length-replicate, length-append, List·getD-append}
 use lib.Seq.{getD-append-add, getD-append-seam}
 use lib.Dec.{ltb}
 use Rattle.asp.specs.Sets.{Set, ind}
 use Rattle.asp.specs.Program.{All}
-use Rattle.cores.specs.Sums.{wsum, sumOver, Distinct, Holds, lose}
-use Rattle.cores.specs.Soft.{Kind, entry, derived, coreNumber, coreOf, kindAt, countBy, judge, violated, Earlier, InOrder}
+use Rattle.cores.specs.Sums.{wsum, sumOver, lose}
+use Rattle.cores.specs.Soft.{Kind, entry, derived, coreNumber, coreOf, kindAt, judge, violated, Earlier, InOrder}
 use Rattle.cores.specs.Level.{Level, recorded, fewer, derivedFrom}
 use Rattle.cores.specs.Identity.{Problem, Good, Core}
 use Rattle.cores.proofs.Sums.{below-or, wsum-ext, count-ext, wsum-append, wsum-lose, length-lose, wsum-above, wsum-replicate-one, count-one, count-le, ind-le}

@@ -1,12 +1,12 @@
 -- The stratum: the greatest remaining weight, and the greatest below a number; the places that reach it. Assumes nothing.
-use mathlib.Core.Path.{_≡_, refl, sym, ap, _∙_, subst}
+use mathlib.Core.Path.{_≡_, refl, sym, subst}
 use mathlib.Core.Bool.{Bool, true, false}
 use mathlib.Core.List.{List, [], _∷_}
-use Prim.Native.Nat.{ℕ, zero, suc, _+_, _-_, _*_, _≤_, _<_, max, zero-le, suc-le-suc}
+use Prim.Native.Nat.{ℕ, zero, suc, _+_, _-_, _≤_, _<_, max, zero-le, suc-le-suc}
 use native.Mathlib.Nat.{not-suc-le-zero, le-of-suc-le-suc}
 use native.Mathlib.Omega.{arith}
-use lib.Dec.{T, ltb, leb, ltb→lt, nltb→le}
-use borrow.Author.Tests.{ltb-true, ltb-false, leb-true, leb-false, lt-ltb, le-ltb, le-leb, lt-leb}
+use lib.Dec.{ltb, leb, ltb→lt, nltb→le}
+use borrow.Author.Tests.{leb-true, leb-false, lt-ltb, le-leb, lt-leb}
 use lib.ListN.{length, getD}
 use Rattle.asp.specs.Sets.{pick}
 use Rattle.asp.specs.Program.{All}

@@ -1,14 +1,13 @@
 -- The columns that are unpacked for a query: they are in shape, and judging by them is judging on the level. Assumes nothing.
 use mathlib.Core.Path.{_≡_, refl, sym, ap, ap₂, _∙_, subst}
 use mathlib.Core.Logic.{_⊎_, inl, inr}
-use mathlib.Core.Bool.{Bool, true, false}
 use mathlib.Core.List.{List, [], _∷_, map}
-use Prim.Native.Nat.{ℕ, zero, suc, _+_, _-_, _≤_, _<_, zero-le, suc-le-suc}
-use native.Mathlib.Nat.{zero-add, le-of-suc-le-suc, not-suc-le-zero}
+use Prim.Native.Nat.{ℕ, zero, suc, _+_, _-_, _≤_, _<_, zero-le}
+use native.Mathlib.Nat.{zero-add}
 use native.Mathlib.Numerals.{add-one}
 use native.Mathlib.Omega.{arith}
 use lib.IntN.{ℤ, pos, natAbs}
-use lib.ListN.{length, getD, set, take, drop, replicate, length-replicate, length-take, length-set, length-map, List·getD-map, List·getD-eq-default}
+use lib.ListN.{length, getD, set, take, drop, replicate, length-replicate, length-set, length-map, List·getD-map, List·getD-eq-default}
 use lib.Seq.{sets, slice, length-slice, getD-take, getD-drop, take-take, length-take-le, ext-getD}
 use Rattle.asp.specs.Sets.{Set, ind}
 use Rattle.asp.specs.Program.{All}
@@ -25,7 +24,7 @@ use Rattle.cores.proofs.Sums.{below-or, wsum-ext}
 use Rattle.cores.proofs.Members.{all-at}
 use Rattle.cores.proofs.Spans.{length-span, getD-span, span-ext}
 use Rattle.cores.proofs.Columns.{number-of}
-use Rattle.cores.proofs.Links.{take-sets, kinds-count, cores-count}
+use Rattle.cores.proofs.Links.{take-sets, cores-count}
 
 abbrev literalOf : Soft → ℤ
 literalOf r = r .literal
@@ -228,9 +227,6 @@ module _ (t : LevelTables) (c : Columns) where
 
   pub cut-violated : SoundTables t → FilledColumns t c → (M : Set) (p : ℕ) → violatedAt cutJudging M p ≡ violated M (levelOf t .kinds) (levelOf t .cores) p
   cut-violated s q M p = ap (λ (j : Judging). violatedAt j M p) (cut-is q) ∙ judging-level t (s .formed) M p
-
-  pub cut-length : SoundTables t → FilledColumns t c → length (cutJudging .literals) ≡ t .count
-  cut-length s q = ap length (q .literals) ∙ length-map (take (t .count) (t .softs)) literalOf ∙ length-take-le (t .count) (t .softs) (omega (arith, s .formed .softs-len, s .formed .softs-few))
 
 -- what the code asks where it cuts them
 module _ {t : LevelTables} (s : SoundTables t) {ls : List ℤ} {js is ws : List ℕ} (q : FilledColumns t (columns ls js is ws)) where

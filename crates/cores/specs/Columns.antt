@@ -1,6 +1,5 @@
 -- The columns of a table of soft literals, and the lists of places that a query works with. Assumes nothing: these are definitions.
 use mathlib.Core.Path.{_≡_}
-use mathlib.Core.Bool.{Bool, true, false}
 use mathlib.Core.List.{List, [], _∷_, map}
 use Prim.Native.Nat.{ℕ, _+_, max}
 use lib.Dec.{eqb, ltb}

@@ -1,13 +1,13 @@
 -- The level in work: opening it, the stratum and its fall, recording a core, the limits. Document 01, "Wishes and cores".
 -- Assumes nothing: these are definitions.
-use mathlib.Core.Bool.{Bool, true, false, _&&_}
+use mathlib.Core.Bool.{Bool, _&&_}
 use mathlib.Core.List.{List, [], _∷_, _++_, map}
-use Prim.Native.Nat.{ℕ, zero, suc, _+_, _-_, _≤_, _<_, max}
-use lib.Dec.{ltb, leb, eqb}
-use lib.ListN.{length, getD, replicate}
+use Prim.Native.Nat.{ℕ, zero, suc, _+_, _-_, _≤_, max}
+use lib.Dec.{ltb, leb}
+use lib.ListN.{length, replicate}
 use Rattle.asp.specs.Sets.{pick}
 use lib.IntN.{natAbs}
-use Rattle.asp.specs.Program.{Literal, Entry, All}
+use Rattle.asp.specs.Program.{Entry, All}
 use Rattle.cores.specs.Sums.{lose}
 use Rattle.cores.specs.Soft.{Kind, entry, derived}
 

@@ -1,6 +1,6 @@
 -- Soft literals (document 01: wishes), cores, and which soft literals a set violates (leaves unmet). Document 01, "Wishes and cores".
 -- Assumes nothing: these are definitions.
-use mathlib.Core.Bool.{Bool, true, false}
+use mathlib.Core.Bool.{Bool, false}
 use mathlib.Core.List.{List, []}
 use Prim.Native.Nat.{ℕ, zero, suc, _≤_, _<_}
 use lib.Dec.{ltb}

@@ -1,6 +1,5 @@
 -- Sums over lists by position, members of a list, and what a list loses at some positions. Assumes nothing: these are definitions.
 use mathlib.Core.Logic.{_≢_}
-use mathlib.Core.Bool.{Bool, true, false}
 use mathlib.Core.List.{List, [], _∷_}
 use Prim.Native.Nat.{ℕ, suc, _+_, _-_, _*_, _≤_, _<_}
 use lib.ListN.{length, getD, set}

@@ -4,11 +4,11 @@ use mathlib.Core.Bool.{Bool, true, false, _&&_}
 use lib.Dec.{ltb}
 use Rattle.asp.specs.Sets.{pick}
 use Rattle.asp.specs.Literal.{sameℤ}
-use mathlib.Core.List.{List, [], _∷_, _++_, map}
+use mathlib.Core.List.{List, [], _∷_, map}
 use Prim.Native.Nat.{ℕ, zero, suc, _+_, _-_, _≤_, _<_}
 use lib.IntN.{ℤ, pos, natAbs}
 use lib.ListN.{length, getD, set, take, replicate}
-use lib.Seq.{sets, slice}
+use lib.Seq.{sets}
 use Rattle.asp.specs.Program.{Literal, Entry, All}
 use Rattle.asp.specs.Tables.{span}
 use Rattle.cores.specs.declared.soft.Soft.{Soft}

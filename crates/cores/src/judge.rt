@@ -1,7 +1,7 @@
 // Judging soft literals for a set. Judging one and counting a core's violated members call each other; the core number falls.
 // The counts are kept for the set at hand, so that no core is counted twice.
 ghost use mathlib.Core.Path.{_≡_};
-ghost use Prim.Native.Nat.{ℕ, _+_, _<_, _≤_};
+ghost use Prim.Native.Nat.{_+_, _<_, _≤_};
 ghost use lib.IntN.{pos, natAbs};
 ghost use mathlib.Core.List.{_++_};
 ghost use lib.ListN.{length, getD, set};

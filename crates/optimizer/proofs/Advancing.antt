@@ -1,16 +1,13 @@
 -- Steps of a query at once are advances, one by one. Assumes nothing.
 use mathlib.Core.Path.{_≡_, refl, sym, ap, ap₂, _∙_, subst}
 use mathlib.Core.Bool.{Bool, true, false}
-use mathlib.Core.Logic.{_≢_, _⊎_, inl, inr}
+use mathlib.Core.Logic.{_⊎_, inl, inr}
 use Prim.Native.Nat.{ℕ, zero, suc, _+_, _-_, _≤_, _<_}
 use native.Mathlib.Omega.{arith}
-use native.Mathlib.Numerals.{add-one}
-use lib.Dec.{ltb}
 use borrow.Author.Tests.{lt-ltb, le-ltb}
 use Rattle.asp.specs.Sets.{pick}
 use Rattle.search.specs.declared.trail.Places.{Places}
 use Rattle.cores.proofs.Sums.{below-or}
-use Rattle.optimizer.specs.declared.state.Phase.{Phase}
 use Rattle.optimizer.specs.declared.state.Blame.{Blame}
 use Rattle.optimizer.specs.declared.state.Search.{Search}
 use Rattle.optimizer.specs.declared.state.Turn.{Turn}
@@ -18,7 +15,7 @@ use Rattle.optimizer.specs.declared.state.Turn.the-variants.{Going, With
 use Rattle.optimizer.specs.Source.{Source}
 use Rattle.optimizer.specs.Turn.{QueryTables, Turned, turned, Turns, turns, oneMore, goOn, turnOf, turnsOf, isGoing}
 use Rattle.optimizer.specs.State.{search, isRunning}
-use Rattle.optimizer.specs.Advance.{afterTurns, finishTurn, workQuery, bumped, advanceOf, advancesOf, madeBy}
+use Rattle.optimizer.specs.Advance.{finishTurn, workQuery, bumped, advanceOf, advancesOf, madeBy}
 use Rattle.optimizer.specs.Run.{bumpedBy, AfterRun, afterRun, stepsOf, queryRun, ReadyRun, Steady, runOf}
 
 -- ---- the figure

@@ -1,18 +1,16 @@
 -- Laws of blame: adding a place, looking one up, the flags. Assumes nothing.
 use mathlib.Core.Path.{_≡_, refl, sym, ap, _∙_}
-use mathlib.Core.Bool.{Bool, true, false, not, _||_}
-use mathlib.Core.List.{List, [], _∷_}
-use Prim.Native.Nat.{ℕ, zero, suc, _+_, _-_, _≤_, _<_}
+use mathlib.Core.Bool.{Bool, true, false}
+use mathlib.Core.List.{List, _∷_}
+use Prim.Native.Nat.{ℕ, suc, _+_, _-_, _≤_, _<_}
 use native.Mathlib.Numerals.{add-one}
-use native.Mathlib.Omega.{arith}
 use lib.Dec.{eqb}
 use lib.ListN.{length, getD, set, drop, length-set, drop-of-length-le}
 use lib.Seq.{drop-cons}
 use borrow.Author.Tests.{eq-eqb, ne-eqb}
 use Rattle.asp.specs.Sets.{pick}
 use Rattle.asp.specs.Stable.{member}
-use Rattle.optimizer.specs.declared.state.Blame.{Blame}
-use Rattle.optimizer.specs.Turn.{blameTables, blamedOf, blameEntry, blamePlace, flagged}
+use Rattle.optimizer.specs.Turn.{blameTables, blameEntry, blamePlace, flagged}
 
 -- ---- the soft literal of an entry
 
@@ -71,9 +69,6 @@ pub flagging-start : (ps : List ℕ) (p : ℕ) (fs : List ℕ) → length fs ≡
 flagging-start ps p fs l = record { long = l; rest = refl }
 
 module _ {ps : List ℕ} {p i : ℕ} {fs gs : List ℕ} (a : Flagging ps p i fs gs) where
-  pub flagging-in : length ps ≤ 4096 → i < length ps → i < 4096
-  flagging-in h l = omega arith
-
   pub flagging-next : i < length ps → {q : ℕ} → q ≡ getD ps i 0 → {hs : List ℕ} → hs ≡ pick (eqb q p) (set gs i 1) gs → Flagging ps p (i + 1) fs hs
   flagging-next h {q} eq {hs} e = record {
     long = ap length e ∙ same-long (eqb q p);

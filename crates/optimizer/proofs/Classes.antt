@@ -1,46 +1,45 @@
 -- What the queries on the tables are about: the stable models, those with the settled costs, the soft literals that are assumed. Assumes nothing.
-use mathlib.Core.Path.{_≡_, refl, sym, ap, ap₂, _∙_, subst}
-use mathlib.Core.Bool.{Bool, true, false, not, _&&_, _||_, cond, true≢false}
-use mathlib.Core.List.{List, [], _∷_, _++_, map}
-use mathlib.Core.Logic.{_⊎_, inl, inr, _≢_}
+use mathlib.Core.Path.{_≡_, refl, sym, ap, _∙_, subst}
+use mathlib.Core.Bool.{Bool, true, false, not, _&&_, cond, true≢false}
+use mathlib.Core.List.{List, [], _∷_, map}
+use mathlib.Core.Logic.{_≢_}
 use Prim.Native.Nat.{ℕ, zero, suc, _+_, _-_, _≤_, _<_, zero-le}
 use native.Mathlib.Decide.{ℕ-discrete}
 use native.Mathlib.Omega.{arith}
 use lib.Dec.{T, eqb}
 use lib.IntN.{ℤ, pos, negℤ, natAbs}
 use lib.ListN.{length, getD, take, length-map, List·getD-map}
-use mir.Facts.{and-yes}
 use borrow.Author.Tests.{eq-eqb, eqb-true}
 use Rattle.asp.specs.Sets.{Set, In, Only, pick}
 use Rattle.asp.specs.Program.{All, LiteralIn}
-use Rattle.asp.specs.Stable.{Stable, isStable, holds, keep}
+use Rattle.asp.specs.Stable.{isStable, holds, keep}
 use Rattle.asp.specs.Cost.{cost}
 use Rattle.asp.proofs.Signed.{abs-neg}
 use Rattle.asp.proofs.Literals.{holds-complement}
 use Rattle.asp.proofs.Stability.{stable-only, stable-yes, yes-stable}
-use Rattle.search.proofs.Unbroken.{NoneBroken, stable-unbroken}
+use Rattle.search.proofs.Unbroken.{stable-unbroken}
 use Rattle.cores.specs.Sums.{Out, Distinct, Holds}
 use Rattle.cores.specs.Soft.{Kind, entry, derived, kindAt, violated, judged}
-use Rattle.cores.specs.Level.{Level, assumedFrom}
+use Rattle.cores.specs.Level.{assumedFrom}
 use Rattle.cores.specs.Judging.{violatedAt}
-use Rattle.cores.specs.Tables.{SoundTables, noSoft, kindOf, levelOf, FormedTables}
+use Rattle.cores.specs.Tables.{SoundTables, noSoft, kindOf, levelOf}
 use Rattle.cores.specs.declared.soft.Soft.{Soft}
 use Rattle.cores.specs.declared.level.LevelTables.{LevelTables}
 use Rattle.cores.proofs.Links.{rests-count}
 use Rattle.cores.proofs.Strata.{assumed-length, assumed-distinct, assumed-heavy, every-assumed}
 use Rattle.cores.proofs.Unpacked.{judging-formed, judging-level}
 use Rattle.optimizer.specs.Source.{Levels, Source, many, levelAt, levelsIn, rulesIn, FormedSource}
-use Rattle.optimizer.specs.Turn.{QueryTables, queryOf, judgingOf, assumedIn, entryPlaces, wishedIn, settledFrom, inClass}
+use Rattle.optimizer.specs.Turn.{queryOf, judgingOf, assumedIn, entryPlaces, wishedIn, settledFrom, inClass}
 use Rattle.optimizer.specs.State.{freshWork}
 use Rattle.optimizer.specs.Advance.{workQuery}
 use Rattle.optimizer.specs.Ready.{ReadyQuery}
 use Rattle.optimizer.specs.Facts.{Model}
 use Rattle.optimizer.specs.Meaning.{pastAt, settledAt}
 use Rattle.optimum.proofs.Floor.{Costs, Base}
-use Rattle.optimum.proofs.Invariant.{Given, Among, firstQuery, levelQuery}
+use Rattle.optimum.proofs.Invariant.{Given}
 use Rattle.optimizer.proofs.Fronts.{keep-length}
 use Rattle.optimizer.proofs.Turning.{all-at}
-use Rattle.optimizer.proofs.Verdicts.{Answers, nameOf}
+use Rattle.optimizer.proofs.Verdicts.{Answers}
 
 abbrev pub given : Source → Given
 given S = record { n = S .n; Model = Model S; levels = levelsIn (S .levels) }

@@ -1,13 +1,13 @@
 -- What `unpack`, `assumed` and `entries` of crate `cores` leave at the fronts of their arrays is the query. Assumes nothing.
-use mathlib.Core.Path.{_≡_, refl, sym, ap, ap₂, _∙_, subst}
+use mathlib.Core.Path.{_≡_, ap, ap₂, _∙_}
 use mathlib.Core.Bool.{Bool, true, false, cond}
 use mathlib.Core.List.{List, [], _∷_, map}
-use Prim.Native.Nat.{ℕ, zero, suc, _≤_, _<_}
+use Prim.Native.Nat.{ℕ, suc, _≤_}
 use native.Mathlib.Omega.{arith}
 use lib.Dec.{eqb}
 use lib.IntN.{ℤ, pos, negℤ}
-use lib.ListN.{length, getD, take, replicate, length-replicate, length-map}
-use lib.Seq.{sets, length-sets}
+use lib.ListN.{length, getD, take, replicate, length-replicate}
+use lib.Seq.{length-sets}
 use Rattle.cores.specs.Level.{assumedFrom}
 use Rattle.cores.specs.Judging.{Judging, judging}
 use Rattle.asp.specs.Stable.{keep}
@@ -17,7 +17,7 @@ use Rattle.cores.specs.Tables.{FilledColumns}
 use Rattle.cores.specs.declared.level.LevelTables.{LevelTables}
 use Rattle.cores.proofs.Unpacked.{cutJudging, cut-is}
 use Rattle.cores.proofs.Kept.{assumed-front, entries-front, wishes-front}
-use Rattle.optimizer.specs.Turn.{QueryTables, queryTables, queryBy, queryOf}
+use Rattle.optimizer.specs.Turn.{queryTables, queryBy, queryOf}
 
 pub keep-length : {A : Type 0} (f : A → Bool) (xs : List A) → length (keep f xs) ≤ length xs
 unfolding keep

@@ -2,26 +2,24 @@
 use mathlib.Core.Path.{_≡_, refl, sym, ap, ap₂, _∙_, subst}
 use mathlib.Core.Bool.{Bool, true, false}
 use mathlib.Core.List.{List, [], _∷_, _++_, map}
-use mathlib.Core.Logic.{_⊎_, inl, inr, _≢_}
 use Prim.Native.Nat.{ℕ, zero, suc, _+_, _-_, _≤_, _<_}
 use native.Mathlib.Numerals.{add-one}
 use native.Mathlib.Nat.{zero-add}
 use native.Mathlib.Omega.{arith}
 use lib.Dec.{eqb, ltb}
 use lib.IntN.{ℤ, pos}
-use lib.ListN.{length, getD, set, take, drop, replicate, length-map, length-set, length-replicate, length-drop}
+use lib.ListN.{length, getD, set, take, drop, replicate, length-set, length-replicate, length-drop}
 use lib.Seq.{getD-set-same, getD-set-other}
-use borrow.Author.Tests.{eq-eqb, ne-eqb, lt-ltb, le-ltb, eqb-true, eqb-false}
+use borrow.Author.Tests.{lt-ltb, le-ltb}
 use Rattle.asp.specs.Sets.{Set, setOf, pick}
 use Rattle.asp.specs.Program.{Entry, All, LiteralIn}
 use Rattle.asp.specs.Cost.{cost, costsAt, cheaper, level}
 use Rattle.asp.specs.Tables.{span, literalsAt}
 use Rattle.asp.proofs.Spans.{length-span, map-span}
-use Rattle.search.specs.Machine as machine
-use Rattle.cores.specs.Soft.{Kind, entry, derived}
+use Rattle.cores.specs.Soft.{entry}
 use Rattle.cores.specs.Level as lev
-use Rattle.cores.specs.Level.{weighty, opened, greatest, under, recorded, derivedFrom, fewer, coreFits, room, FormedEntries}
-use Rattle.cores.specs.Tables.{SoundTables, levelOf, openedTables, heldIn, recordedTables, Room, Tried, tried, triedTables}
+use Rattle.cores.specs.Level.{weighty, greatest, under, recorded, derivedFrom, fewer, coreFits, room, FormedEntries}
+use Rattle.cores.specs.Tables.{SoundTables, levelOf, heldIn, recordedTables, Room, tried, triedTables}
 use Rattle.cores.specs.declared.level.LevelTables.{LevelTables}
 use Rattle.cores.proofs.Spans.{getD-span}
 use Rattle.cores.proofs.Kept.{level-formed, opened-means, opened-sound, recorded-means, recorded-sound, core-counted, level-all, weighty-all}
@@ -30,9 +28,9 @@ use Rattle.cores.proofs.Loops.{try-room}
 use Rattle.optimizer.specs.declared.state.Phase.{Phase}
 use Rattle.optimizer.specs.declared.state.Phase.the-variants.{First, Level, Optimum, Incoherent, Full}
 use Rattle.optimizer.specs.declared.state.Work.{Work}
-use Rattle.optimum.specs.Optimize.{State, working, full, costsOn, openNext, settle, better, withCore, withModel, noModel, begun}
+use Rattle.optimum.specs.Optimize.{State, working, full, costsOn, openNext, settle, withCore, withModel, noModel, begun}
 use Rattle.optimum.specs.Optimize as abstract
-use Rattle.optimizer.specs.Source.{Levels, Source, many, levelAt, levelsIn, entriesIn, FormedLevels, FormedSource}
+use Rattle.optimizer.specs.Source.{Levels, Source, many, levelAt, levelsIn, entriesIn, FormedSource}
 use Rattle.optimizer.specs.State.{work, freshWork}
 use Rattle.optimizer.specs.Finish.{Placed, placed, nextFrom, begunAt, openAt, openFrom, settleOf, costsOf, withBest, betterOf, fallen, withTables, triedWork}
 use Rattle.optimizer.specs.Meaning.{pastAt, settledAt, laterAt, workOf, meantBy}

@@ -1,19 +1,18 @@
 -- Every state that advances from a fresh one lead to can be advanced, and the facts of demand 3 hold of it. Assumes nothing.
 use mathlib.Core.Path.{_≡_, refl, sym, ap, ap₂, _∙_, subst}
-use mathlib.Core.Bool.{Bool, true, false}
-use mathlib.Core.List.{List, [], _∷_, map}
+use mathlib.Core.Bool.{true, false}
+use mathlib.Core.List.{List, [], _∷_}
 use mathlib.Core.Logic.{_≢_}
-use mathlib.Core.Option.{Option, none, some}
+use mathlib.Core.Option.{some}
 use Prim.Native.Nat.{ℕ, zero, suc, _+_, _-_, _*_, _^_, _≤_, _<_}
-use native.Mathlib.Nat.{zero-add}
 use native.Mathlib.Numerals.{add-one}
 use native.Mathlib.Omega.{arith}
 use lib.Dec.{ltb}
-use lib.ListN.{length, getD, take, replicate, length-replicate, getD-replicate}
+use lib.ListN.{length, getD, take, replicate, length-replicate}
 use lib.Seq.{getD-take}
 use Rattle.asp.specs.Sets.{Set, setOf}
-use Rattle.asp.specs.Program.{Entry, All}
-use Rattle.asp.specs.Cost.{cost, weight, NoDearer}
+use Rattle.asp.specs.Program.{Entry}
+use Rattle.asp.specs.Cost.{cost, NoDearer}
 use Rattle.asp.specs.Tables.{span}
 use Rattle.asp.proofs.Order.{ltb-linear, no-dearer-refl}
 use Rattle.asp.proofs.Spans.{length-span, map-span}
@@ -26,10 +25,10 @@ use Rattle.optimizer.specs.declared.state.Phase.the-variants.{First, Lev
 use Rattle.optimizer.specs.declared.state.Blame.{Blame}
 use Rattle.optimizer.specs.declared.state.Work.{Work}
 use Rattle.optimizer.specs.declared.state.Search.{Search}
-use Rattle.optimum.specs.Optimize.{onto, zeros, lowers, Running}
+use Rattle.optimum.specs.Optimize.{onto, zeros, lowers}
 use Rattle.optimum.specs.Optimize as abstract
 use Rattle.optimizer.specs.Source.{Levels, Source, many, levelAt, levelsIn, FormedSource}
-use Rattle.optimizer.specs.State.{search as searchOf, freshWork, freshSearch, isRunning}
+use Rattle.optimizer.specs.State.{search as searchOf, freshSearch, isRunning}
 use Rattle.optimizer.specs.Finish.{costsOf}
 use Rattle.optimizer.specs.Advance.{workQuery, finishTurn, bumped, advanceOf, advancesOf, madeBy}
 use Rattle.optimizer.specs.Turn.{blamedOf, Turned, turnOf}
@@ -40,7 +39,7 @@ use Rattle.search.specs.declared.trail.Places.{Places}
 use Rattle.search.specs.Places.{trailOf}
 use Rattle.search.specs.Trail as list
 use Rattle.optimizer.proofs.Verdicts.{seen}
-use Rattle.optimum.proofs.Claims.{OnBest, Falls, work-falls, lowers-le, lowers-long, best-is, optimum-is, optimum-best, none-ends, incoherent-none, few-advances, never-full, identity}
+use Rattle.optimum.proofs.Claims.{Falls, work-falls, lowers-le, lowers-long, best-is, optimum-is, optimum-best, none-ends, few-advances, never-full, identity}
 use Rattle.optimum.proofs.Invariant.{Among, GoodWork, Inv}
 use Rattle.optimizer.proofs.Advancing.{advances-plus}
 use Rattle.optimizer.proofs.Classes.{given, costs-at, at-costs}

@@ -1,10 +1,8 @@
 -- Steps of a query and its end, as the code puts them together. Assumes nothing.
 use mathlib.Core.Path.{_≡_, refl, sym, ap, ap₂, _∙_, subst}
 use mathlib.Core.Bool.{Bool, true, false}
-use mathlib.Core.List.{List}
 use Prim.Native.Nat.{ℕ, zero, suc, _+_, _-_, _≤_, _<_}
 use native.Mathlib.Omega.{arith}
-use lib.Dec.{ltb}
 use lib.ListN.{length, replicate}
 use borrow.Author.Tests.{lt-ltb, le-ltb}
 use Rattle.asp.specs.Sets.{pick}
@@ -20,13 +18,13 @@ use Rattle.optimizer.specs.declared.state.Search.{Search}
 use Rattle.optimizer.specs.declared.state.Turn.{Turn}
 use Rattle.optimizer.specs.declared.state.Turn.the-variants.{Going, Without, Model}
 use Rattle.optimizer.specs.Source.{Levels, Source}
-use Rattle.optimizer.specs.Turn.{QueryTables, Turned, turned, Turns, turns, turnOf, turnsOf, isGoing, blamedOf}
+use Rattle.optimizer.specs.Turn.{QueryTables, turned, Turns, turns, turnOf, turnsOf, isGoing, blamedOf}
 use Rattle.search.specs.Places.{freshPlaces}
 use Rattle.optimizer.specs.State.{work, freshSearch, search, freshBlame}
 use Rattle.optimizer.specs.Finish.{Placed, placed, finishOf}
 use Rattle.optimizer.specs.Advance.{endedQuery, afterTurns, workQuery}
 use Rattle.optimizer.specs.Ready.{ReadyQuery, GoodBlame, ReadyCore}
-use Rattle.optimizer.specs.Run.{bumpedBy, AfterRun, afterRun, stepsOf, queryRun, ReadyRun}
+use Rattle.optimizer.specs.Run.{bumpedBy, afterRun, stepsOf, queryRun, ReadyRun}
 use Rattle.optimizer.proofs.Turning.{turn-sound, turn-blame}
 
 pub counted-over : (k c : ℕ) → k ≤ 18446744073709551615 → 18446744073709551615 - k < c → 18446744073709551615 ≡ bumpedBy k c

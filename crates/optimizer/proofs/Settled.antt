@@ -1,26 +1,21 @@
 -- The loop over the settled levels, and the judgement of a full trail. Assumes nothing.
-use mathlib.Core.Path.{_≡_, refl, sym, ap, _∙_}
-use mathlib.Core.Bool.{Bool, true, false, not, _&&_}
+use mathlib.Core.Path.{_≡_}
+use mathlib.Core.Bool.{Bool, true, false, _&&_}
 use mathlib.Core.List.{List, _++_}
-use Prim.Native.Nat.{ℕ, zero, suc, _+_, _-_, _≤_, _<_}
+use Prim.Native.Nat.{ℕ, suc, _+_, _-_, _≤_, _<_}
 use native.Mathlib.Nat.{sub-zero}
 use native.Mathlib.Omega.{arith}
 use lib.Dec.{eqb}
-use lib.IntN.{ℤ}
 use lib.ListN.{getD}
-use Rattle.asp.specs.Sets.{Set, setOf, same, pick}
-use Rattle.asp.specs.Program.{Rule}
-use Rattle.asp.specs.Stable.{isStable, anyViolated, closure}
+use Rattle.asp.specs.Sets.{Set, setOf}
+use Rattle.asp.specs.Stable.{isStable}
 use Rattle.asp.specs.Cost.{cost}
-use Rattle.asp.specs.Growth.{stabilityOf}
-use Rattle.asp.specs.declared.stable.Stability.{Stability}
-use Rattle.asp.specs.declared.stable.Stability.the-variants.{Stable, Violated, NotLeast}
-use Rattle.cores.specs.Judging.{Judging, violatedAt, firstViolated}
+use Rattle.cores.specs.Judging.{violatedAt, firstViolated}
 use Rattle.cores.specs.declared.judge.Judged.{Judged}
 use Rattle.optimizer.specs.declared.state.Judgement.{Judgement}
 use Rattle.optimizer.specs.declared.state.Judgement.the-variants.{Dead}
 use Rattle.optimizer.specs.Source.{Source, rulesIn, levelAt}
-use Rattle.optimizer.specs.Turn.{QueryTables, queryTables, settledFrom, inClass, softOrWanted, judgeFull}
+use Rattle.optimizer.specs.Turn.{QueryTables, settledFrom, inClass, softOrWanted, judgeFull}
 
 -- ---- the loop
 
@@ -44,33 +39,6 @@ module _ {f : ℕ → ℕ} {lowers : List ℕ} {k l : ℕ} (s : Settling f lower
   pub settling-done : k ≤ l → true ≡ settledFrom f lowers 0 k
   unfolding settledFrom
   settling-done h = let q : k - l ≡ 0 = omega arith in rw q at (s .rest)
-
--- ---- what the test of a set finds
-
-module _ (n : ℕ) (rs : List Rule) (M : Set) where
-  pub found-stable : {x : Stability} → x ≡ stabilityOf n rs M → x ≡ Stable → true ≡ isStable n rs M
-  found-stable e q = go (anyViolated M rs) (same n M (closure n rs M)) (sym q ∙ e)
-    where
-      go : (v s : Bool) → Stable ≡ pick v Violated (pick s Stable NotLeast) → true ≡ (not v && s)
-      go true s k = let z : _≡_ {A = ℕ} 0 1 = cc in absurd (omega arith)
-      go false true k = refl
-      go false false k = let z : _≡_ {A = ℕ} 0 1 = cc in absurd (omega arith)
-
-  pub found-violated : {x : Stability} → x ≡ stabilityOf n rs M → x ≡ Violated → false ≡ isStable n rs M
-  found-violated e q = go (anyViolated M rs) (same n M (closure n rs M)) (sym q ∙ e)
-    where
-      go : (v s : Bool) → Violated ≡ pick v Violated (pick s Stable NotLeast) → false ≡ (not v && s)
-      go true s k = refl
-      go false true k = let z : _≡_ {A = ℕ} 0 1 = cc in absurd (omega arith)
-      go false false k = refl
-
-  pub found-other : {x : Stability} → x ≡ stabilityOf n rs M → x ≡ NotLeast → false ≡ isStable n rs M
-  found-other e q = go (anyViolated M rs) (same n M (closure n rs M)) (sym q ∙ e)
-    where
-      go : (v s : Bool) → NotLeast ≡ pick v Violated (pick s Stable NotLeast) → false ≡ (not v && s)
-      go true s k = refl
-      go false true k = let z : _≡_ {A = ℕ} 0 1 = cc in absurd (omega arith)
-      go false false k = refl
 
 -- ---- the class, and the judgement
 

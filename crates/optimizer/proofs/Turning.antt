@@ -1,35 +1,34 @@
 -- One step of a query on the tables: what its calls ask, and that it keeps the trail and the blame in order. Assumes nothing.
 use mathlib.Core.Path.{_≡_, refl, sym, ap, ap₂, _∙_, subst, fun-ext}
-use mathlib.Core.Bool.{Bool, true, false, not, _&&_, _||_, true≢false}
+use mathlib.Core.Bool.{Bool, true, false, _||_, true≢false}
 use mathlib.Core.List.{List, [], _∷_, _++_}
-use mathlib.Core.Logic.{_⊎_, inl, inr, _≢_}
-use Prim.Native.Nat.{ℕ, zero, suc, _+_, _-_, _*_, _≤_, _<_}
+use mathlib.Core.Logic.{_≢_}
+use Prim.Native.Nat.{ℕ, zero, suc, _+_, _-_, _≤_, _<_}
 use native.Mathlib.Decide.{ℕ-discrete}
-use native.Mathlib.Numerals.{add-one}
 use native.Mathlib.Nat.{sub-zero}
 use native.Mathlib.Omega.{arith}
-use lib.Dec.{T, eqb}
-use lib.IntN.{ℤ, pos}
-use lib.ListN.{length, getD, set, drop, replicate, length-set, length-drop, length-replicate, getD-replicate}
-use lib.Seq.{drop-cons, drop-set-lt, getD-set-same, getD-set-other, drop-nil}
+use lib.Dec.{eqb}
+use lib.IntN.{ℤ}
+use lib.ListN.{length, getD, set, drop, replicate, length-set, length-replicate, getD-replicate}
+use lib.Seq.{drop-cons, drop-set-lt, getD-set-same, getD-set-other}
 use Rattle.indexing.specs.Leaf.{Equipped}
 use Rattle.search.specs.Scan.{Rules}
 use Rattle.counting.specs.declared.counters.Index.{Index}
 use Rattle.counting.specs.Counters.{Counters}
-use borrow.Author.Tests.{eq-eqb, ne-eqb, eqb-true, eqb-false}
+use borrow.Author.Tests.{eq-eqb, ne-eqb, eqb-false}
 use Rattle.asp.specs.Sets.{Set, setOf, pick}
 use Rattle.asp.specs.Program.{All}
 use Rattle.asp.specs.Stable.{member}
 use Rattle.search.specs.declared.trail.Places.{Places}
-use Rattle.search.specs.Places.{places, SoundTrail, Good, backOf, pushOf}
-use Rattle.search.specs.Soft.{AssumedEntries, assumedEntries, FormedSoft}
+use Rattle.search.specs.Places.{places, SoundTrail, backOf}
+use Rattle.search.specs.Soft.{FormedSoft}
 use Rattle.search.specs.Step.{testOf, Stepped, stepped, stepOf, movedBy}
 use Rattle.search.specs.declared.step.Tested.{Tested}
 use Rattle.search.specs.declared.step.Tested.the-variants.{RuleBroken, Full, SoftViolated, Open}
 use Rattle.search.proofs.Steps.{back-sound, test-says, step-sound}
-use Rattle.cores.specs.Sums.{Out, Distinct, Holds, wsum}
+use Rattle.cores.specs.Sums.{Out, Distinct, Holds}
 use Rattle.cores.proofs.Sums.{members-weigh, wsum-replicate-one}
-use Rattle.cores.specs.Judging.{Judging, violatedAt, firstViolated}
+use Rattle.cores.specs.Judging.{violatedAt, firstViolated}
 use Rattle.cores.specs.declared.judge.Judged.{Judged}
 use Rattle.cores.specs.declared.judge.Judged.the-variants.{Met}
 use Rattle.cores.specs.declared.judge.Judged.the-variants as judged
@@ -40,7 +39,7 @@ use Rattle.optimizer.specs.declared.state.Judgement.{Judgement}
 use Rattle.optimizer.specs.declared.state.Judgement.the-variants.{Wanted, Dead, Violated}
 use Rattle.optimizer.specs.declared.turn.Turning.{Turning}
 use Rattle.optimizer.specs.Source.{Source, ruleTables, firstIn, Tries}
-use Rattle.optimizer.specs.Turn.{QueryTables, queryTables, blameTables, blamedOf, blameEntry, blamePlace, flagged, inClass, softOrWanted, judgeFull, Turned, turned, backed, judgedTurn, turnBy, assumedBy, turnOf, isGoing, Turns, turns, oneMore, goOn, turnsOf}
+use Rattle.optimizer.specs.Turn.{QueryTables, blameTables, blamedOf, blameEntry, blamePlace, flagged, inClass, softOrWanted, judgeFull, Turned, turned, backed, judgedTurn, turnBy, assumedBy, turnOf, isGoing, Turns, turns, oneMore, goOn, turnsOf}
 use Rattle.optimizer.specs.Ready.{softs, ReadyQuery, GoodBlame, backedTo, turning}
 
 clash : {A : Type 0} → true ≡ false → A

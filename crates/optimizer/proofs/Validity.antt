@@ -1,5 +1,5 @@
 -- Every state that advances from a fresh one lead to is valid: what it means keeps the invariant of `Optimize`, and its tables are in order. Assumes nothing.
-use mathlib.Core.Path.{_≡_, refl, sym, ap, ap₂, _∙_, subst}
+use mathlib.Core.Path.{_≡_, refl, sym, ap, _∙_, subst}
 use mathlib.Core.Bool.{Bool, true, false}
 use mathlib.Core.List.{List, [], _∷_}
 use mathlib.Core.Logic.{_⊎_, inl, inr}
@@ -7,10 +7,10 @@ use Prim.Native.Nat.{ℕ, zero, suc, _+_, _-_, _≤_, _<_, zero-le}
 use native.Mathlib.Nat.{sub-zero}
 use native.Mathlib.Omega.{arith}
 use lib.Dec.{eqb, ltb}
-use lib.ListN.{length, getD, drop, replicate, length-replicate}
+use lib.ListN.{length, getD, replicate, length-replicate}
 use borrow.Author.Tests.{lt-ltb, le-ltb}
 use Rattle.asp.specs.Sets.{setOf, pick}
-use Rattle.asp.specs.Program.{Entry, All}
+use Rattle.asp.specs.Program.{All}
 use Rattle.asp.specs.Stable.{member}
 use Rattle.asp.specs.Tables.{span}
 use Rattle.search.specs.Machine as machine
@@ -20,7 +20,6 @@ use Rattle.search.proofs.Search as search
 use Rattle.cores.specs.Sums.{Distinct}
 use Rattle.cores.specs.Identity.{Core, problem}
 use Rattle.cores.specs.Tables.{SoundTables, levelOf}
-use Rattle.cores.specs.declared.level.LevelTables.{LevelTables}
 use Rattle.cores.proofs.Sums.{below-or}
 use Rattle.cores.proofs.Kept.{empty-sound, core-counted, core-inside, core-places, core-bound, distinct-few, level-weight, level-formed}
 use Rattle.optimizer.specs.declared.state.Phase.{Phase}
@@ -30,25 +29,24 @@ use Rattle.optimizer.specs.declared.state.Work.{Work}
 use Rattle.optimizer.specs.declared.state.Search.{Search}
 use Rattle.optimizer.specs.declared.state.Turn.{Turn}
 use Rattle.optimizer.specs.declared.state.Turn.the-variants.{Going, Without, Model}
-use Rattle.optimum.specs.Optimize.{State, openNext, noModel, settle, withModel, afterFirst, afterWork}
+use Rattle.optimum.specs.Optimize.{State, openNext, afterFirst, afterWork}
 use Rattle.optimizer.specs.Source.{Levels, Source, many, levelAt, levelsIn, entriesIn, FormedSource}
-use Rattle.optimizer.specs.Turn.{QueryTables, queryOf, blamedOf, Turned, turned, Turns, turns, turnOf, turnsOf, isGoing}
-use Rattle.search.specs.Places.{freshPlaces}
+use Rattle.optimizer.specs.Turn.{QueryTables, queryOf, blamedOf, Turned, turned, turns, turnOf, turnsOf, isGoing}
 use Rattle.optimizer.specs.State.{search as searchOf, freshBlame, freshWork, freshSearch, isRunning}
-use Rattle.optimizer.specs.Finish.{Placed, placed, withBest, openFrom, finishOf}
+use Rattle.optimizer.specs.Finish.{Placed, withBest, openFrom, finishOf}
 use Rattle.optimizer.specs.Advance.{endedQuery, afterTurns, finishTurn, workQuery, bumped, advanceOf, advancesOf, madeBy}
 use Rattle.optimizer.specs.Ready.{ReadyQuery, GoodBlame, ReadyCore}
-use Rattle.optimizer.specs.Run.{bumpedBy, stepsOf, ReadyRun}
+use Rattle.optimizer.specs.Run.{bumpedBy, ReadyRun}
 use Rattle.optimizer.specs.Meaning.{workOf, meantBy, meant}
-use Rattle.optimum.proofs.Invariant.{Given, levelQuery, firstQuery, GoodWork, GoodFirst, GoodWorking, Inv}
+use Rattle.optimum.proofs.Invariant.{levelQuery, GoodWork, GoodFirst, GoodWorking, Inv}
 use Rattle.optimum.proofs.Kept.{core-of, turn-kept, first-kept, start-kept}
 use Rattle.optimizer.proofs.Turning.{turn-sound, turn-blame}
 use Rattle.optimizer.proofs.Finishing.{formed-in}
 use Rattle.optimizer.proofs.Fresh.{drop-all, fresh-query, fresh-trail}
 use Rattle.optimizer.proofs.Advancing.{rest-advance, rest-advances}
-use Rattle.optimizer.proofs.Verdicts.{seenBy, seen, verdict, verdict-says, turn-seen, turn-good, Answers, problemOf}
+use Rattle.optimizer.proofs.Verdicts.{seenBy, seen, verdict, verdict-says, turn-seen, turn-good, Answers}
 use Rattle.optimizer.proofs.Classes.{given, level-ready, level-answers, first-answers}
-use Rattle.optimizer.proofs.Meanings.{meantPlaced, OnLevel, AtEnd, InOrder, Ordered, Opened, open-from, model-means, core-means}
+use Rattle.optimizer.proofs.Meanings.{meantPlaced, OnLevel, InOrder, Opened, open-from, model-means, core-means}
 
 -- c advances were made
 pub record Valid (S : Source) (c : ℕ) (s : Search) : Type 0 where

@@ -1,24 +1,22 @@
 -- A turn on the tables is a step of the machine over trails, and what its verdict says of the trail. Assumes nothing.
-use mathlib.Core.Path.{_≡_, refl, sym, ap, ap₂, _∙_, subst}
-use mathlib.Core.Bool.{Bool, true, false, not, _&&_, _||_, true≢false}
+use mathlib.Core.Path.{_≡_, refl, sym, ap, _∙_, subst}
+use mathlib.Core.Bool.{Bool, true, false, true≢false}
 use mathlib.Core.List.{List, [], _∷_, _++_}
 use mathlib.Core.Option.{Option, none, some}
-use Prim.Native.Nat.{ℕ, zero, suc, _+_, _-_, _≤_, _<_}
-use native.Mathlib.Omega.{arith}
+use Prim.Native.Nat.{ℕ, _+_, _-_, _≤_, _<_}
 use lib.Dec.{T, eqb}
-use lib.IntN.{ℤ, pos, natAbs}
-use lib.ListN.{length, getD, set, drop}
-use borrow.Author.Tests.{eqb-true, eqb-false}
-use Rattle.asp.specs.Sets.{Set, setOf, In, Only, pick}
+use lib.IntN.{pos}
+use lib.ListN.{length, getD, set}
+use borrow.Author.Tests.{eqb-false}
+use Rattle.asp.specs.Sets.{Set, setOf, Only, pick}
 use Rattle.asp.specs.Program.{All}
 use Rattle.asp.specs.Stable.{member, holds}
-use Rattle.search.specs.Trail.{Trail, literalOf, FormedTrail, trailSet}
+use Rattle.search.specs.Trail.{Trail, trailSet}
 use Rattle.search.specs.Query.{HoldsAll}
-use Rattle.search.specs.Machine.{Verdict, open′, conflict, wanted}
+use Rattle.search.specs.Machine.{Verdict, conflict, wanted}
 use Rattle.search.specs.Machine as machine
 use Rattle.search.specs.declared.trail.Places.{Places}
-use Rattle.search.specs.Places.{SoundTrail, pushOf, backOf, trailOf}
-use Rattle.search.specs.Soft.{wishedAt}
+use Rattle.search.specs.Places.{SoundTrail, backOf, trailOf}
 use Rattle.search.specs.Step.{testOf}
 use Rattle.search.specs.Link.{verdictOf, backState}
 use Rattle.search.specs.declared.step.Tested.{Tested}

@@ -1,6 +1,5 @@
 -- What the tables of a query, its trail, its blame and the state are, for the code to read them. Assumes nothing: these are definitions.
 use mathlib.Core.Path.{_≡_}
-use mathlib.Core.Bool.{Bool, true, false}
 use mathlib.Core.List.{List}
 use Prim.Native.Nat.{ℕ, _+_, _≤_, _<_}
 use lib.Dec.{eqb}
@@ -9,21 +8,16 @@ use lib.ListN.{length, getD}
 use Rattle.asp.specs.Sets.{In, pick}
 use Rattle.asp.specs.Program.{All}
 use Rattle.asp.specs.Stable.{member}
-use Rattle.search.specs.declared.trail.Places.{Places}
-use Rattle.search.specs.Places.{SoundTrail}
 use Rattle.cores.specs.Sums.{Distinct}
 use Rattle.cores.specs.Judging.{FormedJudging}
-use Rattle.cores.specs.Tables.{FormedTables, Counted}
-use Rattle.cores.specs.declared.level.LevelTables.{LevelTables}
+use Rattle.cores.specs.Tables.{Counted}
 use Rattle.optimizer.specs.declared.state.Blame.{Blame}
 use Rattle.optimizer.specs.declared.state.Work.{Work}
-use Rattle.optimizer.specs.declared.state.Search.{Search}
 use Rattle.optimizer.specs.declared.state.Turn.{Turn}
 use Rattle.optimizer.specs.declared.state.Turn.the-variants.{Going, Without}
 use Rattle.optimizer.specs.declared.turn.Turning.{Turning}
-use Rattle.optimizer.specs.Source.{Levels, many, Source, FormedLevels, FormedSource}
+use Rattle.optimizer.specs.Source.{many, Source, FormedSource}
 use Rattle.optimizer.specs.Turn.{QueryTables, blamedOf}
-use Rattle.optimizer.specs.Advance.{workQuery}
 
 -- how many soft literals the level has
 abbrev pub softs : QueryTables → ℕ
@@ -57,13 +51,6 @@ turning x k from = record { turn = x; len = k; from = from }
 
 abbrev pub backedTo : ℕ → ℕ → Turning
 backedTo k from = pick (eqb k 0) (turning Without k from) (turning Going k from)
-
-pub record ReadyWork (L : Levels) (w : Work) : Type 0 where
-  pub levels : FormedLevels L
-  pub level : w .level ≤ many L
-  pub tables : FormedTables (w .tables)
-  pub lowers-len : length (w .lowers) ≡ 8
-  pub uppers-len : length (w .uppers) ≡ 8
 
 -- a core can be recorded: its places are in the table, none of it is lighter than the stratum, and the bound stays in range
 pub record ReadyCore (w : Work) (ms : List ℕ) : Type 0 where

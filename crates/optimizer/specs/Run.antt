@@ -1,12 +1,10 @@
 -- Advances, by queries: what the code does at once, and what it needs to know before. Assumes nothing: these are definitions.
 use mathlib.Core.Path.{_≡_}
-use mathlib.Core.List.{List}
 use Prim.Native.Nat.{ℕ, _+_, _≤_, _<_}
 use lib.Dec.{ltb}
 use Rattle.asp.specs.Sets.{pick}
 use Rattle.search.specs.Places.{SoundTrail}
 use Rattle.cores.specs.Tables.{SoundTables}
-use Rattle.optimizer.specs.declared.state.Phase.{Phase}
 use Rattle.optimizer.specs.declared.state.Phase.the-variants.{Level}
 use Rattle.optimizer.specs.declared.state.Search.{Search}
 use Rattle.optimizer.specs.declared.state.Turn.the-variants.{Without}

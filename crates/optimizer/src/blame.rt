@@ -2,11 +2,10 @@
 use cores::table::at;
 ghost use mathlib.Core.Path.{_≡_};
 ghost use mathlib.Core.Bool.{false};
-ghost use Prim.Native.Nat.{ℕ, _+_, _-_, _≤_, _<_};
+ghost use Prim.Native.Nat.{_+_, _-_, _≤_, _<_};
 ghost use lib.ListN.{length, getD, set, drop};
 ghost use lib.Dec.{eqb};
 ghost use Rattle.asp.specs.Sets.{pick};
-ghost use Rattle.asp.specs.Program.{All};
 ghost use Rattle.asp.specs.Stable.{member};
 ghost use Rattle.optimizer.specs.Turn.{blameTables, blameEntry, blamePlace, flagged};
 

@@ -5,15 +5,13 @@ use crate::state::Work;
 use cores::level::LevelTables;
 use cores::recording;
 ghost use mathlib.Core.Path.{_≡_};
-ghost use mathlib.Core.Bool.{Bool};
-ghost use Prim.Native.Nat.{ℕ, _+_, _-_, _≤_, _<_};
-ghost use lib.ListN.{length, getD};
-ghost use Rattle.asp.specs.Program.{All};
+ghost use Prim.Native.Nat.{_+_, _-_, _≤_, _<_};
+ghost use lib.ListN.{length};
 ghost use Rattle.cores.specs.Level.{under};
-ghost use Rattle.cores.specs.Tables.{levelOf, FormedTables, Counted, triedTables};
+ghost use Rattle.cores.specs.Tables.{levelOf, FormedTables, triedTables};
 ghost use Rattle.optimizer.specs.Source.{levelTables, FormedLevels};
 ghost use Rattle.optimizer.specs.Finish.{placed, nextFrom, openAt, openFrom, settleOf, costsOf, withBest, betterOf, fallen, withTables, triedWork, finishFirst, finishLevel, finishOf};
-ghost use Rattle.optimizer.specs.Ready.{ReadyWork, ReadyCore};
+ghost use Rattle.optimizer.specs.Ready.{ReadyCore};
 
 // The phase after the end of a query, and what stands still in it.
 pub struct Placement {

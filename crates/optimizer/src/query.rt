@@ -8,7 +8,7 @@ use cores::recording;
 use indexing::fill;
 use search::trail::Places;
 ghost use mathlib.Core.Path.{_≡_};
-ghost use Prim.Native.Nat.{ℕ, _≤_, _<_};
+ghost use Prim.Native.Nat.{_≤_, _<_};
 ghost use lib.ListN.{length};
 ghost use Rattle.search.specs.Places.{SoundTrail};
 ghost use Rattle.counting.specs.Counters.{index};

@@ -1,31 +1,27 @@
 -- What holds of the optimizer after any number of advances: the theorems that demand 3 rests on. Assumes nothing.
 use mathlib.Core.Path.{_≡_, refl, sym, ap, _∙_, subst}
 use mathlib.Core.Logic.{_⊎_, inl, inr}
-use mathlib.Core.Bool.{Bool, true, false, true≢false}
-use mathlib.Core.List.{List, [], _∷_, map}
+use mathlib.Core.Bool.{true, false, true≢false}
+use mathlib.Core.List.{List, [], _∷_}
 use mathlib.Core.Option.{Option, none, some}
-use Prim.Native.Nat.{ℕ, zero, suc, _+_, _*_, _^_, _≤_, _<_}
+use Prim.Native.Nat.{ℕ, suc, _+_, _*_, _^_, _≤_, _<_}
 use native.Mathlib.Nat.{eq-or-lt-of-le}
 use native.Mathlib.Omega.{arith}
-use lib.Dec.{T, eqb, ltb, lt→ltb}
+use lib.Dec.{eqb, ltb, lt→ltb}
 use lib.ListN.{length}
-use Rattle.asp.specs.Sets.{Set, pick, ind}
+use Rattle.asp.specs.Sets.{Set, pick}
 use Rattle.asp.specs.Program.{Entry, All}
 use Rattle.asp.specs.Cost.{cost, weight, total, NoDearer}
 use Rattle.asp.proofs.Order.{ltb-linear, no-dearer-refl}
-use Rattle.search.specs.Trail.{Trail, flip}
-use Rattle.search.specs.Machine.{Verdict}
 use Rattle.search.specs.Machine as machine
 use Rattle.search.proofs.Spent.{spent, spent-le}
-use Rattle.cores.specs.Sums.{wsum}
-use Rattle.cores.specs.Soft.{violated}
-use Rattle.cores.specs.Level.{Level, room}
-use Rattle.cores.specs.Identity.{Core, problem, violatedWeight}
+use Rattle.cores.specs.Level.{room}
+use Rattle.cores.specs.Identity.{problem, violatedWeight}
 use Rattle.cores.proofs.Limits.{has-room, lower-bounds}
-use Rattle.optimum.specs.Optimize.{Work, State, first, working, optimum, incoherent, full, Tests, costsOn, onto, better, begun, openNext, settle, withCore, withModel, noModel, afterFirst, afterWork, advance, after, advances, bestOf, zeros, workLowers, lowers, uppers, Running, Incoherent}
-use Rattle.optimum.proofs.Floor.{Costs, Base, Floor, weights, weights-onto, floor-le, onto-costs, onto-long, zeros-long, zeros-le, costs-long, better-le}
-use Rattle.optimum.proofs.Invariant.{Given, Among, power, GoodWork, GoodWorking, GoodFull, GoodEnd, Inv, Right}
-use Rattle.optimum.proofs.Kept.{holds-after, paid-bound}
+use Rattle.optimum.specs.Optimize.{Work, State, first, working, optimum, incoherent, full, Tests, costsOn, onto, begun, openNext, settle, withCore, withModel, noModel, afterFirst, afterWork, advance, advances, bestOf, zeros, workLowers, lowers, Running, Incoherent}
+use Rattle.optimum.proofs.Floor.{Costs, weights, weights-onto, floor-le, onto-costs, onto-long, zeros-long, zeros-le, costs-long, better-le}
+use Rattle.optimum.proofs.Invariant.{Given, Among, power, GoodWork, GoodFull, GoodEnd, Inv}
+use Rattle.optimum.proofs.Kept.{paid-bound}
 
 -- a fact of the best model, where there is one
 abbrev pub OnBest : (Set → Type 0) → Option Set → Type 0

@@ -1,11 +1,11 @@
 -- The invariant of the optimizer, over any class of models, and what is asked of the tests of a trail. Assumes nothing.
 use mathlib.Core.Path.{_≡_}
 use mathlib.Core.Logic.{_≢_}
-use mathlib.Core.Bool.{Bool, true, false}
+use mathlib.Core.Bool.{false}
 use mathlib.Core.List.{List, [], _∷_}
 use Prim.Native.Nat.{ℕ, suc, _+_, _*_, _^_, _≤_}
 use Rattle.asp.specs.Sets.{Set}
-use Rattle.asp.specs.Program.{Entry, All}
+use Rattle.asp.specs.Program.{Entry}
 use Rattle.asp.specs.Cost.{cost, weight}
 use Rattle.search.specs.Trail.{Trail, FormedTrail}
 use Rattle.search.proofs.Spent.{spent}

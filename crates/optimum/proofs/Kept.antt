@@ -1,34 +1,34 @@
 -- An advance keeps the invariant. Assumes nothing.
-use mathlib.Core.Path.{_≡_, refl, sym, ap, _∙_, subst}
+use mathlib.Core.Path.{_≡_, refl, subst}
 use mathlib.Core.Logic.{_≢_, _⊎_, inl, inr}
-use mathlib.Core.Bool.{Bool, true, false, not}
+use mathlib.Core.Bool.{Bool, true, false}
 use mathlib.Core.List.{List, [], _∷_}
-use mathlib.Core.Option.{Option, none, some}
-use Prim.Native.Nat.{ℕ, zero, suc, _+_, _*_, _^_, _≤_, _<_, zero-le, suc-le-suc}
+use mathlib.Core.Option.{some}
+use Prim.Native.Nat.{ℕ, zero, suc, _+_, _*_, _≤_, _<_, zero-le, suc-le-suc}
 use native.Mathlib.Nat.{mul-le-mul-right}
 use native.Mathlib.Omega.{arith}
-use lib.Dec.{T, eqb}
+use lib.Dec.{eqb}
 use mir.Facts.{eqb-yes, eqb-no}
-use lib.ListN.{length, getD}
+use lib.ListN.{length}
 use Rattle.asp.specs.Sets.{Set, pick}
 use Rattle.asp.specs.Program.{Entry, All}
 use Rattle.asp.specs.Cost.{cost, weight, total}
-use Rattle.search.specs.Trail.{Trail, FormedTrail}
+use Rattle.search.specs.Trail.{Trail}
 use Rattle.search.specs.Machine.{Verdict}
 use Rattle.search.specs.Machine as machine
 use Rattle.search.proofs.Spent.{spent, spent-le}
 use Rattle.search.proofs.Search as search
 use Rattle.cores.specs.Soft.{violated}
-use Rattle.cores.specs.Level.{Level, opened, greatest, under, recorded, room}
+use Rattle.cores.specs.Level.{opened, greatest, under, room}
 use Rattle.cores.specs.Identity.{Good, Core, problem, remaining}
 use Rattle.cores.proofs.Sums.{below-or}
 use Rattle.cores.proofs.Record.{kept, some-violated}
 use Rattle.cores.proofs.Open.{opened-good, cost-le}
 use Rattle.cores.proofs.Strata.{greatest-le, greatest-none, under-lt, under-none}
-use Rattle.cores.proofs.Limits.{Fits, opened-fits, fits-kept, met-costs-lower, lower-bounds}
-use Rattle.optimum.specs.Optimize.{Work, State, first, working, optimum, incoherent, full, Tests, onto, better, begun, openNext, settle, withCore, withModel, noModel, afterFirst, afterWork, advance, after}
-use Rattle.optimum.proofs.Floor.{Costs, Base, Floor, weights, better-is, better-cost}
-use Rattle.optimum.proofs.Invariant.{Given, Among, firstQuery, levelQuery, power, GoodWork, Paid, GoodFirst, GoodWorking, GoodEnd, GoodFull, Inv, Right}
+use Rattle.cores.proofs.Limits.{opened-fits, fits-kept, met-costs-lower, lower-bounds}
+use Rattle.optimum.specs.Optimize.{Work, State, first, working, optimum, incoherent, full, Tests, better, begun, openNext, settle, withCore, withModel, noModel, afterFirst, afterWork, advance, after}
+use Rattle.optimum.proofs.Floor.{Base, weights, better-is, better-cost}
+use Rattle.optimum.proofs.Invariant.{Given, Among, firstQuery, levelQuery, power, GoodWork, Paid, GoodFirst, GoodWorking, GoodEnd, Inv, Right}
 
 -- ---- numbers: P is more than a query takes, t the weight of the settled levels, b the lower bound, W the level's weight, s the stratum
 

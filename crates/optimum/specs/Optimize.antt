@@ -1,11 +1,9 @@
 -- The optimizer: levels over strata over queries over the trail. Document 01, "Question and path" and "Wishes and cores". How a trail is tested, where it branches
 -- and which soft literal is blamed are parameters. Assumes nothing: these are definitions.
-use mathlib.Core.Bool.{Bool, true, false}
 use mathlib.Core.List.{List, [], _∷_, map}
 use mathlib.Core.Option.{Option, none, some}
-use Prim.Native.Nat.{ℕ, zero, suc, _+_}
+use Prim.Native.Nat.{ℕ, zero, suc}
 use lib.Dec.{eqb, ltb}
-use lib.ListN.{length}
 use Rattle.asp.specs.Sets.{Set, pick}
 use Rattle.asp.specs.Program.{Entry}
 use Rattle.asp.specs.Cost.{cost, cheaper}
@@ -175,21 +173,6 @@ uppersBy levels (some M) = some (costsOn M levels)
 -- "upper bound (the best model's costs, absent before one)"
 abbrev pub uppers : List (List Entry) → State → Option (List ℕ)
 uppers levels s = uppersBy levels (bestOf s)
-
--- "level in work (from 1, the highest; 0 if none), stratum (0 if no level is in work)"
-abbrev pub levelInWork : State → ℕ
-levelInWork (first c t) = 0
-levelInWork (working c w t ms) = suc (length (w .past))
-levelInWork (optimum c past settled M) = 0
-levelInWork (incoherent c) = 0
-levelInWork (full c w) = suc (length (w .past))
-
-abbrev pub stratumOf : State → ℕ
-stratumOf (first c t) = 0
-stratumOf (working c w t ms) = w .stratum
-stratumOf (optimum c past settled M) = 0
-stratumOf (incoherent c) = 0
-stratumOf (full c w) = w .stratum
 
 abbrev pub Running : State → Type 0
 Running (first c t) = Unit {0}

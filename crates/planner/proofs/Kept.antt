@@ -2,14 +2,10 @@
 use mathlib.Core.Path.{_≡_, refl, sym, ap, _∙_, subst}
 use mathlib.Core.Bool.{Bool, true, false, true≢false}
 use mathlib.Core.List.{List}
-use Prim.Native.Nat.{ℕ, _+_}
+use Prim.Native.Nat.{ℕ}
 use Rattle.asp.specs.Sets.{pick}
 use Rattle.aspif_lines.specs.Text.{Answer, accepted, refused}
-use Rattle.aspif.specs.Store.{WellFormed}
-use Rattle.aspif.specs.declared.text.Stored.{Stored}
 use Rattle.optimizer.specs.declared.state.Search.{Search}
-use Rattle.optimizer.specs.State.{freshSearch}
-use Rattle.optimizer.specs.Advance.{advanceOf, advancesOf}
 use Rattle.optimizer.specs.Run.{Reached}
 use Rattle.optimizer.proofs.Reached.{reached-fresh, reached-more, reached-next}
 use Rattle.planner.specs.declared.service.Service.{Service}

@@ -4,7 +4,7 @@ use borrow.Author.Needs.{needs}
 use Prim.Native.Nat.{_-_}
 use native.Mathlib.Omega.{arith}
 use lib.ListN.{length}
-use Rattle.optimizer.proofs.Blaming.{Flagging, flagging-start, flagging-in, flagging-next, flagging-done}
+use Rattle.optimizer.proofs.Blaming.{Flagging, flagging-start, flagging-next, flagging-done}
 use Rattle.optimizer.proofs.blame.flag.Statement.{statement}
 use Rattle.optimizer.proofs.blame.flag.Tie as tie
 

@@ -1,7 +1,7 @@
 -- `optimizer::run::after` meets its contract.
 -- Assumes nothing.
 use Rattle.optimizer.proofs.Running.{after-going, after-without, after-model, not-without}
-use mathlib.Core.Path.{_≡_, sym, ap, _∙_, subst}
+use mathlib.Core.Path.{sym, ap, _∙_, subst}
 use mathlib.Core.List.{List}
 use Prim.Native.Nat.{ℕ}
 use borrow.Author.Needs.{needs}

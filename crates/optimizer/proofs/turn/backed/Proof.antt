@@ -1,6 +1,5 @@
 -- `optimizer::turn::backed` meets its contract.
 -- Assumes nothing.
-use borrow.Author.Needs.{needs}
 use borrow.Author.Tests.{eq-eqb, ne-eqb}
 use Rattle.optimizer.proofs.turn.backed.Statement.{statement}
 use Rattle.optimizer.proofs.turn.backed.Tie as tie

@@ -4,10 +4,8 @@ use mathlib.Core.Path.{_≡_, ap, sym, _∙_}
 use mathlib.Core.List.{List}
 use Prim.Native.Nat.{ℕ, _<_}
 use native.Mathlib.Omega.{arith}
-use lib.ListN.{drop}
-use Rattle.asp.specs.Program.{All}
 use Rattle.search.specs.declared.trail.Places.{Places}
-use Rattle.search.specs.Places.{places, backOf}
+use Rattle.search.specs.Places.{places}
 use Rattle.cores.specs.Judging.{judging}
 use Rattle.optimizer.specs.declared.state.Blame.{Blame}
 use Rattle.optimizer.specs.Source.{Source, source, levelTables}
