@@ -21,7 +21,7 @@ use Rattle.asp.specs.Program.{All}
 use Rattle.asp.specs.Stable.{member}
 use Rattle.search.specs.declared.trail.Places.{Places}
 use Rattle.search.specs.Places.{places, SoundTrail, backOf}
-use Rattle.search.specs.Soft.{FormedSoft}
+use Rattle.search.specs.Soft.{assumedEntries, FormedSoft}
 use Rattle.search.specs.Step.{testOf, Stepped, stepped, stepOf, movedBy}
 use Rattle.search.specs.declared.step.Tested.{Tested}
 use Rattle.search.specs.declared.step.Tested.the-variants.{RuleBroken, Full, SoftViolated, Open}

@@ -10,6 +10,7 @@ use Rattle.search.specs.declared.step.Tested.{Tested}
 use Rattle.search.specs.declared.trail.Places.{Places}
 use Rattle.search.specs.Places.{places, freshPlaces, backOf, Good}
 use Rattle.search.specs.Scan.{Rules, rules}
+use Rattle.asp.specs.Sets.{Set}
 use Rattle.search.specs.Soft.{AssumedEntries, assumedEntries, FormedSoft}
 use Rattle.search.specs.Step.{stepped, stepOf}
 use Rattle.search.proofs.Kept.{after-back, after-fresh, after-step}
@@ -50,5 +51,5 @@ module _ {n : ℕ} {pool : List ℤ} {rows : List ℕ} {rulecount : ℕ} {s : As
 
 -- ---- the wishes, with any table of eight places for what is blamed
 
-pub soft-formed : {n : ℕ} {w : List ℤ} {k : ℕ} → Wished n w k → {b : List ℕ} → length b ≡ 8 → FormedSoft n (assumedEntries w b k)
+pub soft-formed : {n : ℕ} {w : List ℤ} {k : ℕ} → Wished n w k → {b : List ℕ} → length b ≡ 8 → {f : Set} → FormedSoft n (assumedEntries w b k f)
 soft-formed f e = record { wished-long = f .long; blamed-long = omega (arith, f .few); atoms = f .atoms }

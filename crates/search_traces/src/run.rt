@@ -12,6 +12,7 @@ ghost use mathlib.Core.Path.{_≡_};
 ghost use Prim.Native.Nat.{ℕ, _≤_};
 ghost use lib.ListN.{length, getD};
 ghost use lib.IntN.{pos, natAbs};
+ghost use Rattle.asp.specs.Sets.{setOf};
 ghost use Rattle.asp.specs.Tables.{Formed};
 ghost use Rattle.search.specs.Places.{places};
 ghost use Rattle.search.specs.Scan.{rules};
@@ -138,6 +139,7 @@ fn full<'a>(
     lists: &'a [u16],
     headstarts: &'a [u16],
     headlists: &'a [u16],
+    tried: &'a [u8; 1025],
     wished: &'a [i32],
     count: usize,
     models: &'a [u32],
@@ -150,7 +152,7 @@ fn full<'a>(
     m: Marks,
 ) -> Moved
     requires { ⌜ n ≤ 1024 ⌝ }
-    requires { ⌜ FormedSoft n (assumedEntries (now wished) (now blamed) count) ⌝ }
+    requires { ⌜ FormedSoft n (assumedEntries (now wished) (now blamed) count (setOf (now tried))) ⌝ }
     requires { ⌜ Running n (rules (now pool) (now rows) rulecount) (index (now starts) (now lists)) (index (now headstarts) (now headlists)) (places (now lits) (now marks) (now value) len) (counters (now key) m) ⌝ }
     ensures { λ r. ⌜ Running n (rules (now (pool .entry)) (now (rows .entry)) rulecount) (index (now (starts .entry)) (now (lists .entry))) (index (now (headstarts .entry)) (now (headlists .entry))) (places (now (lits .exit)) (now (marks .exit)) (now (value .exit)) (r .len)) (counters (now (key .exit)) (r .marks)) ⌝ }
     ensures { λ r. ⌜ length (now (blamed .exit)) ≡ length (now (blamed .entry)) ⌝ }
@@ -174,7 +176,7 @@ fn full<'a>(
             m,
         );
     }
-    match soft::violated(wished, blamed, count, value) {
+    match soft::violated(tried, wished, blamed, count, value) {
         Violation::At(i) => {
             say::say(b"full soft ");
             say::number(i);
@@ -246,6 +248,7 @@ fn turn<'a>(
     lists: &'a [u16],
     headstarts: &'a [u16],
     headlists: &'a [u16],
+    tried: &'a [u8; 1025],
     wished: &'a [i32],
     count: usize,
     models: &'a [u32],
@@ -258,7 +261,7 @@ fn turn<'a>(
     m: Marks,
 ) -> Moved
     requires { ⌜ Formed n (now pool) (now rows) rulecount ⌝ }
-    requires { ⌜ FormedSoft n (assumedEntries (now wished) (now blamed) count) ⌝ }
+    requires { ⌜ FormedSoft n (assumedEntries (now wished) (now blamed) count (setOf (now tried))) ⌝ }
     requires { ⌜ Running n (rules (now pool) (now rows) rulecount) (index (now starts) (now lists)) (index (now headstarts) (now headlists)) (places (now lits) (now marks) (now value) len) (counters (now key) m) ⌝ }
     ensures { λ r. ⌜ Running n (rules (now (pool .entry)) (now (rows .entry)) rulecount) (index (now (starts .entry)) (now (lists .entry))) (index (now (headstarts .entry)) (now (headlists .entry))) (places (now (lits .exit)) (now (marks .exit)) (now (value .exit)) (r .len)) (counters (now (key .exit)) (r .marks)) ⌝ }
     ensures { λ r. ⌜ length (now (blamed .exit)) ≡ length (now (blamed .entry)) ⌝ }
@@ -272,6 +275,7 @@ fn turn<'a>(
         headstarts,
         headlists,
         n,
+        tried,
         wished,
         blamed,
         count,
@@ -295,6 +299,7 @@ fn turn<'a>(
             lists,
             headstarts,
             headlists,
+            tried,
             wished,
             count,
             models,
@@ -326,6 +331,7 @@ fn run_lent<'a>(
     lists: &'a [u16],
     headstarts: &'a [u16],
     headlists: &'a [u16],
+    tried: &'a [u8; 1025],
     wished: &'a [i32],
     count: usize,
     models: &'a [u32],
@@ -354,6 +360,7 @@ fn run_lent<'a>(
             lists,
             headstarts,
             headlists,
+            tried,
             wished,
             count,
             models,
@@ -379,7 +386,7 @@ fn run_lent<'a>(
     say::say_steps(steps);
 }
 
-// The query, to its end.
+// The query, to its end. No atom is to be tried in first.
 pub fn run<'a>(
     pool: &'a [i32],
     rows: &'a [u16],
@@ -393,9 +400,9 @@ pub fn run<'a>(
     requires { ⌜ Readied (rules (now pool) (now rows) rulecount) ⌝ }
     requires { ⌜ Wished n (now wished) count ⌝ }
 {
-    let o = build::list_rules(pool, rows, rulecount);
-    let by_condition = o.conditions;
-    let by_head = o.heads;
+    let by_condition = build::lists_of(pool, rows, rulecount, false);
+    let by_head = build::lists_of(pool, rows, rulecount, true);
+    let tried = [0u8; 1025];
     run_lent(
         n,
         pool,
@@ -405,6 +412,7 @@ pub fn run<'a>(
         &by_condition.rules,
         &by_head.starts,
         &by_head.rules,
+        &tried,
         wished,
         count,
         models,
