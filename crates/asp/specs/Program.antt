@@ -71,6 +71,16 @@ abbrev pub All : {A : Type 0} → (A → Type 0) → List A → Type 0
 All P [] = Unit {0}
 All P (x ∷ xs) = P x × All P xs
 
+-- m is none of the members
+abbrev pub Out : ℕ → List ℕ → Type 0
+Out m [] = Unit {0}
+Out m (x ∷ xs) = (m ≡ x → ⊥) × Out m xs
+
+-- none twice
+abbrev pub Distinct : List ℕ → Type 0
+Distinct [] = Unit {0}
+Distinct (x ∷ xs) = Out x xs × Distinct xs
+
 abbrev pub LiteralIn : ℕ → Literal → Type 0
 LiteralIn n l = In n (natAbs l)
 

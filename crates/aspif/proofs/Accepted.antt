@@ -197,7 +197,7 @@ fine-add l (symbol s) p h f =
 fine-add l comment p s f = f
 fine-add l final p s f = f
 
--- ---- texts: what every line keeps is so of all that is accepted, beside the limits, which are judgedLine after each line
+-- ---- texts: what every line keeps is so of all that is accepted, beside the limits, which are judged after each line
 
 module _ (P : Reading → Type 0) (keeps : (l : List ℕ) (st : Statement) (u : List ℕ) (q : Reading) → statement l ≡ got st u → P q → P (add l st q)) where
   abbrev Stands : Reading → Type 0

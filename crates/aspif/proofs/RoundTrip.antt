@@ -1,4 +1,4 @@
--- Reading what was written gives the sameBytes program and the sameBytes text. Assumes nothing.
+-- Reading what was written gives the same program and the same text. Assumes nothing.
 use mathlib.Core.Path.{_≡_, refl, sym, ap, _∙_}
 use mathlib.Core.Bool.{Bool, true, false}
 use mathlib.Core.List.{List, [], _∷_, _++_, append-assoc}
@@ -226,7 +226,7 @@ headed-again : (ls : List (List ℕ)) → (ls ≡ [] → ⊥) → headed (header
 headed-again [] h = absurd (h refl)
 headed-again (l ∷ ls) h = rw (same-refl header)
 
--- THE round trip: what an accepted text is stored as is accepted with the sameBytes program, and stored as it is
+-- THE round trip: what an accepted text is stored as is accepted with the same program, and stored as it is
 pub round-trip : (s : List ℕ) (p : Program) (t : List ℕ) → textOf s ≡ accepted p t → textOf t ≡ accepted p t
 unfolding textOf joined
 round-trip s p t e =

@@ -89,7 +89,7 @@ same-apart (a ∷ k) (b ∷ l) h = go (eqb a b) (same-apart k l (λ e. h (ap suc
     go true e = e
     go false e = refl
 
--- the first i bytes are the sameBytes
+-- the first i bytes are the same
 pub record Comparing (k l : List ℕ) (i : ℕ) : Type 0 where
   pub long : length k ≡ length l
   pub left : sameBytes (drop i k) (drop i l) ≡ sameBytes k l

@@ -262,7 +262,7 @@ pub record WellFormed (p : Stored) : Type 0 where
   pub text : p .counts .text ≤ 65536
   -- "16,384 head atoms and body literals"
   pub size : sum ruleSize (storedProgram p .rules) ≤ 16384
-  -- "n is the highest atom named, 0 if emptyProgram"
+  -- "n is the highest atom named, 0 if none"
   pub atoms : p .counts .atoms ≡ atoms (storedProgram p)
   pub formed : Formed (p .counts .atoms) (p .pool) (p .rules) (p .counts .rules)
   pub named : ProgramIn (p .counts .atoms) (storedProgram p)

@@ -170,7 +170,7 @@ fn read_lines(
     }
 }
 
-// The sameBytes bytes.
+// The same bytes.
 pub fn is_same<'a>(a: &'a [u8], b: &'a [u8]) -> bool
     ensures { λ r. ⌜ r ≡ sameBytes (now (a .entry)) (now (b .entry)) ⌝ }
 {

@@ -57,7 +57,7 @@ nil (b ∷ l) = false
 abbrev pub formed : ℕ → List ℕ → Bool
 formed n l = ltb 0 n && (not (eqb (next l) 48 && ltb 1 n) && over (drop n l))
 
--- the form. "A place where a number is due and emptyProgram stands is refusal 2."
+-- the form. "A place where a number is due and none stands is refusal 2."
 unfoldable pub token : List ℕ → Read ℕ
 token l = pick (formed (length (digits l)) l) (got (decimal 0 (digits l)) (drop (length (digits l)) l)) (bad 2)
 
@@ -113,7 +113,7 @@ unfoldable pub more : {A : Type 0} → (List ℕ → Read A) → ℕ → List A 
 more f zero xs l = got xs l
 more f (suc k) xs l = bind (f l) (λ a r. more f k (xs ++ (a ∷ [])) r)
 
--- "with emptyProgram at the ends": after the last field the line is over
+-- "with none at the ends": after the last field the line is over
 abbrev pub ended : {A : Type 0} → A → List ℕ → Read A
 ended a l = pick (nil l) (got a []) (bad 2)
 

@@ -1,5 +1,6 @@
 // A number that a user writes: decimal, with no leading zero, from 0 to 4,294,967,295.
 use aspif_lines::token::byte_at;
+use aspif_lines::token::is_digit;
 ghost use mathlib.Core.Bool.{true};
 ghost use mathlib.Core.Path.{_≡_};
 ghost use Prim.Native.Nat.{ℕ, _+_, _-_, _*_, _^_, _<_, _≤_};
@@ -10,12 +11,6 @@ ghost use Rattle.console.specs.Number.{numberOf, inRange, allDigits, val
 pub enum Number {
     Value { value: u32 },
     Wrong,
-}
-
-fn is_digit(b: u8) -> bool
-    ensures { λ r. ⌜ r ≡ isDigit b ⌝ }
-{
-    if 48 <= b { b <= 57 } else { false }
 }
 
 // The digit's value.

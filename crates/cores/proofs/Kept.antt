@@ -11,11 +11,11 @@ use lib.ListN.{length, getD, take, replicate, length-map, length-replicate, getD
 use lib.Seq.{sets}
 use Rattle.asp.specs.Sets.{pick}
 use Rattle.asp.specs.Literal.{sameℤ}
-use Rattle.asp.specs.Program.{Entry, All}
+use Rattle.asp.specs.Program.{Entry, All, Distinct}
 use Rattle.asp.specs.Cost.{total, weight, level}
 use Rattle.cores.specs.declared.level.LevelTables.{LevelTables}
 use Rattle.cores.specs.declared.judge.Judged.the-variants.{Met, Violated}
-use Rattle.cores.specs.Sums.{Distinct, Holds}
+use Rattle.cores.specs.Sums.{Holds}
 use Rattle.cores.specs.Soft.{InOrder}
 use Rattle.cores.specs.Level.{Level, weighty, opened, greatest, under, assumedFrom, recorded, fewer, coreFits, FormedEntries}
 use Rattle.cores.specs.Identity.{Problem, Good, Core}

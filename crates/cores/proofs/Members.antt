@@ -8,8 +8,8 @@ use native.Mathlib.Nat.{le-of-suc-le-suc, not-suc-le-zero}
 use lib.ListN.{length, getD}
 use lib.Dec.{T, leb, ltb, eqb, leb→le, ltb→lt, eqb-refl, T-not}
 use mir.Facts.{and-yes}
-use Rattle.asp.specs.Program.{All}
-use Rattle.cores.specs.Sums.{Out, Distinct, Holds}
+use Rattle.asp.specs.Program.{All, Out, Distinct}
+use Rattle.cores.specs.Sums.{Holds}
 
 -- ---- facts of each member, and facts of each place: what a loop gives is by places, what a proof goes down is by members
 

@@ -9,8 +9,8 @@ use lib.Dec.{ltb, leb, ltb→lt, nltb→le}
 use borrow.Author.Tests.{leb-true, leb-false, lt-ltb, le-leb, lt-leb}
 use lib.ListN.{length, getD}
 use Rattle.asp.specs.Sets.{pick}
-use Rattle.asp.specs.Program.{All}
-use Rattle.cores.specs.Sums.{wsum, Out, Distinct, Holds}
+use Rattle.asp.specs.Program.{All, Out, Distinct}
+use Rattle.cores.specs.Sums.{wsum, Holds}
 use Rattle.cores.specs.Level.{greatest, under, assumedFrom}
 use Rattle.cores.proofs.Judgements.{all-map}
 

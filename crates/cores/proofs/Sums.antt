@@ -12,8 +12,8 @@ use lib.Dec.{T, ltb, lt→ltb}
 use lib.Arith.{le→nltb}
 use native.Mathlib.Decide.{decLt}
 use Rattle.asp.specs.Sets.{ind}
-use Rattle.asp.specs.Program.{All}
-use Rattle.cores.specs.Sums.{wsum, sumOver, Out, Distinct, Holds, lose}
+use Rattle.asp.specs.Program.{All, Out, Distinct}
+use Rattle.cores.specs.Sums.{wsum, sumOver, Holds, lose}
 
 -- ---- congruence: f counts only at the positions that there are
 

@@ -4,9 +4,9 @@ use mathlib.Core.List.{List}
 use Prim.Native.Nat.{ℕ, _+_, _≤_}
 use lib.ListN.{length}
 use Rattle.asp.specs.Sets.{Set, ind}
-use Rattle.asp.specs.Program.{Entry, All}
+use Rattle.asp.specs.Program.{Entry, All, Distinct}
 use Rattle.asp.specs.Cost.{cost, weight}
-use Rattle.cores.specs.Sums.{wsum, Distinct, Holds}
+use Rattle.cores.specs.Sums.{wsum, Holds}
 use Rattle.cores.specs.Soft.{violated, countBy, InOrder}
 use Rattle.cores.specs.Level.{Level}
 

@@ -1,5 +1,4 @@
 -- Sums over lists by position, members of a list, and what a list loses at some positions. Assumes nothing: these are definitions.
-use mathlib.Core.Logic.{_≢_}
 use mathlib.Core.List.{List, [], _∷_}
 use Prim.Native.Nat.{ℕ, suc, _+_, _-_, _*_, _≤_, _<_}
 use lib.ListN.{length, getD, set}
@@ -13,16 +12,6 @@ wsum f (w ∷ ws) = w * f 0 + wsum (λ p. f (suc p)) ws
 abbrev pub sumOver : (ℕ → ℕ) → List ℕ → ℕ
 sumOver f [] = 0
 sumOver f (m ∷ ms) = f m + sumOver f ms
-
--- m is none of the members
-abbrev pub Out : ℕ → List ℕ → Type 0
-Out m [] = Unit {0}
-Out m (x ∷ xs) = (m ≢ x) × Out m xs
-
--- none twice
-abbrev pub Distinct : List ℕ → Type 0
-Distinct [] = Unit {0}
-Distinct (m ∷ ms) = Out m ms × Distinct ms
 
 -- at m there is a weight, of s at least
 abbrev pub Holds : ℕ → List ℕ → ℕ → Type 0

@@ -11,25 +11,25 @@ use lib.IntN.{ℤ, pos, negℤ, natAbs}
 use lib.ListN.{length, getD, take, length-map, List·getD-map}
 use borrow.Author.Tests.{eq-eqb, eqb-true}
 use Rattle.asp.specs.Sets.{Set, In, Only, pick}
-use Rattle.asp.specs.Program.{All, LiteralIn}
+use Rattle.asp.specs.Program.{All, LiteralIn, Out, Distinct}
 use Rattle.asp.specs.Stable.{isStable, holds, keep}
 use Rattle.asp.specs.Cost.{cost}
 use Rattle.asp.proofs.Signed.{abs-neg}
 use Rattle.asp.proofs.Literals.{holds-complement}
 use Rattle.asp.proofs.Stability.{stable-only, stable-yes, yes-stable}
 use Rattle.search.proofs.Unbroken.{stable-unbroken}
-use Rattle.cores.specs.Sums.{Out, Distinct, Holds}
+use Rattle.cores.specs.Sums.{Holds}
 use Rattle.cores.specs.Soft.{Kind, entry, derived, kindAt, violated, judged}
 use Rattle.cores.specs.Level.{assumedFrom}
 use Rattle.cores.specs.Judging.{violatedAt}
-use Rattle.cores.specs.Tables.{SoundTables, noSoft, kindOf, levelOf}
+use Rattle.cores.specs.Tables.{SoundTables, noSoft, kindOf, levelOf, levelJudging}
 use Rattle.cores.specs.declared.soft.Soft.{Soft}
 use Rattle.cores.specs.declared.level.LevelTables.{LevelTables}
 use Rattle.cores.proofs.Links.{rests-count}
 use Rattle.cores.proofs.Strata.{assumed-length, assumed-distinct, assumed-heavy, every-assumed}
 use Rattle.cores.proofs.Unpacked.{judging-formed, judging-level}
 use Rattle.optimizer.specs.Source.{Levels, Source, many, levelAt, levelsIn, rulesIn, FormedSource}
-use Rattle.optimizer.specs.Turn.{queryOf, judgingOf, assumedIn, entryPlaces, wishedIn, settledFrom, inClass}
+use Rattle.optimizer.specs.Turn.{queryOf, assumedIn, entryPlaces, wishedIn, settledFrom, inClass}
 use Rattle.optimizer.specs.State.{freshWork}
 use Rattle.optimizer.specs.Advance.{workQuery}
 use Rattle.optimizer.specs.Ready.{ReadyQuery}
@@ -176,37 +176,37 @@ module _ (n : ℕ) (t : LevelTables) (s : ℕ) (ok : SoundTables t) (k : All (Ki
   abbrev softsHere : List Soft
   softsHere = take (t .count) (t .softs)
 
-  pub entries-are : All (λ p. Holds s (levelOf t .rests) p × (eqb (getD (judgingOf t .cores) p 0) 0 ≡ true)) (entryPlaces t s)
-  entries-are = keep-all (Holds s (levelOf t .rests)) (λ p. eqb (getD (judgingOf t .cores) p 0) 0) (assumedIn t s) (assumed-heavy s (levelOf t .rests))
+  pub entries-are : All (λ p. Holds s (levelOf t .rests) p × (eqb (getD (levelJudging t .cores) p 0) 0 ≡ true)) (entryPlaces t s)
+  entries-are = keep-all (Holds s (levelOf t .rests)) (λ p. eqb (getD (levelJudging t .cores) p 0) 0) (assumedIn t s) (assumed-heavy s (levelOf t .rests))
 
-  entry-is : (i : ℕ) → i < length (entryPlaces t s) → Holds s (levelOf t .rests) (getD (entryPlaces t s) i 0) × (eqb (getD (judgingOf t .cores) (getD (entryPlaces t s) i 0) 0) 0 ≡ true)
-  entry-is i h = all-at (λ p. Holds s (levelOf t .rests) p × (eqb (getD (judgingOf t .cores) p 0) 0 ≡ true)) (entryPlaces t s) entries-are i h
+  entry-is : (i : ℕ) → i < length (entryPlaces t s) → Holds s (levelOf t .rests) (getD (entryPlaces t s) i 0) × (eqb (getD (levelJudging t .cores) (getD (entryPlaces t s) i 0) 0) 0 ≡ true)
+  entry-is i h = all-at (λ p. Holds s (levelOf t .rests) p × (eqb (getD (levelJudging t .cores) p 0) 0 ≡ true)) (entryPlaces t s) entries-are i h
 
   pub wished-long : length (wishedIn t s) ≡ length (entryPlaces t s)
-  wished-long = length-map (entryPlaces t s) (λ (p : ℕ). negℤ (getD (judgingOf t .literals) p (pos 0)))
+  wished-long = length-map (entryPlaces t s) (λ (p : ℕ). negℤ (getD (levelJudging t .literals) p (pos 0)))
 
   kinds-long : length (levelOf t .kinds) ≡ length (levelOf t .rests)
   kinds-long = length-map softsHere kindOf ∙ sym (length-map softsHere (λ (r : Soft). r .weight))
 
-  literals-long : length (judgingOf t .literals) ≡ length (levelOf t .rests)
+  literals-long : length (levelJudging t .literals) ≡ length (levelOf t .rests)
   literals-long = length-map softsHere (λ (r : Soft). r .literal) ∙ sym (length-map softsHere (λ (r : Soft). r .weight))
 
   -- the soft literal of an entry, by its place
-  pub kind-of : (p : ℕ) → eqb (getD (judgingOf t .cores) p 0) 0 ≡ true → kindAt (levelOf t .kinds) p ≡ entry (getD (judgingOf t .literals) p (pos 0))
+  pub kind-of : (p : ℕ) → eqb (getD (levelJudging t .cores) p 0) 0 ≡ true → kindAt (levelOf t .kinds) p ≡ entry (getD (levelJudging t .literals) p (pos 0))
   kind-of p e =
-      let c : getD (judgingOf t .cores) p 0 ≡ getD softsHere p noSoft .core = List·getD-map (λ (r : Soft). r .core) softsHere p noSoft in
-      let l : getD (judgingOf t .literals) p (pos 0) ≡ getD softsHere p noSoft .literal = List·getD-map (λ (r : Soft). r .literal) softsHere p noSoft in
+      let c : getD (levelJudging t .cores) p 0 ≡ getD softsHere p noSoft .core = List·getD-map (λ (r : Soft). r .core) softsHere p noSoft in
+      let l : getD (levelJudging t .literals) p (pos 0) ≡ getD softsHere p noSoft .literal = List·getD-map (λ (r : Soft). r .literal) softsHere p noSoft in
       List·getD-map kindOf softsHere p noSoft
       ∙ ap (λ (b : Bool). pick b (entry (getD softsHere p noSoft .literal)) (derived (getD softsHere p noSoft .core) (getD softsHere p noSoft .index))) (ap (λ (x : ℕ). eqb x 0) (sym c) ∙ e)
       ∙ ap entry (sym l)
 
-  literal-in : (i : ℕ) → i < length (entryPlaces t s) → LiteralIn n (getD (judgingOf t .literals) (getD (entryPlaces t s) i 0) (pos 0))
+  literal-in : (i : ℕ) → i < length (entryPlaces t s) → LiteralIn n (getD (levelJudging t .literals) (getD (entryPlaces t s) i 0) (pos 0))
   literal-in i h =
       let z = entry-is i h in
       subst (KindIn n) (kind-of (getD (entryPlaces t s) i 0) (z .1)) (kind-at n (levelOf t .kinds) k (getD (entryPlaces t s) i 0) (rw kinds-long (z .0 .0)))
 
-  wish-is : (i : ℕ) → i < length (entryPlaces t s) → getD (wishedIn t s) i (pos 0) ≡ negℤ (getD (judgingOf t .literals) (getD (entryPlaces t s) i 0) (pos 0))
-  wish-is i h = map-at (λ (p : ℕ). negℤ (getD (judgingOf t .literals) p (pos 0))) (entryPlaces t s) i h
+  wish-is : (i : ℕ) → i < length (entryPlaces t s) → getD (wishedIn t s) i (pos 0) ≡ negℤ (getD (levelJudging t .literals) (getD (entryPlaces t s) i 0) (pos 0))
+  wish-is i h = map-at (λ (p : ℕ). negℤ (getD (levelJudging t .literals) p (pos 0))) (entryPlaces t s) i h
     where
       map-at : (f : ℕ → ℤ) (xs : List ℕ) (i : ℕ) → i < length xs → getD (map f xs) i (pos 0) ≡ f (getD xs i 0)
       map-at f [] i h = absurd (omega arith)
@@ -220,14 +220,14 @@ module _ (n : ℕ) (t : LevelTables) (s : ℕ) (ok : SoundTables t) (k : All (Ki
   pub wish-holds : (M : Set) (i : ℕ) → i < length (wishedIn t s) → violated M (levelOf t .kinds) (levelOf t .cores) (getD (entryPlaces t s) i 0) ≡ false → T (holds M (getD (wishedIn t s) i (pos 0)))
   wish-holds M i h e =
       let g : i < length (entryPlaces t s) = omega (arith, wished-long) in
-      let l : ℤ = getD (judgingOf t .literals) (getD (entryPlaces t s) i 0) (pos 0) in
+      let l : ℤ = getD (levelJudging t .literals) (getD (entryPlaces t s) i 0) (pos 0) in
       let v : holds M l ≡ false = sym (entry-violated M (levelOf t .kinds) (levelOf t .cores) (getD (entryPlaces t s) i 0) l (kind-of (getD (entryPlaces t s) i 0) (entry-is i g .1))) ∙ e in
       is-true _ (ap (holds M) (wish-is i g) ∙ holds-complement M l (literal-in i g .0) ∙ ap not v)
 
   entry-heavy : (i : ℕ) → i < length (wishedIn t s) → Holds s (levelOf t .rests) (getD (entryPlaces t s) i 0)
   entry-heavy i h = entry-is i (omega (arith, wished-long)) .0
 
-  below : (m : ℕ) → Holds s (levelOf t .rests) m → m < length (judgingOf t .literals)
+  below : (m : ℕ) → Holds s (levelOf t .rests) m → m < length (levelJudging t .literals)
   below m h = rw literals-long (h .0)
 
 -- THE QUERY OF A LEVEL CAN BE ASKED
@@ -240,11 +240,11 @@ module _ (S : Source) (f : FormedSource S) (level : ℕ) (lowers : List ℕ) (t 
     level = h;
     lowers-len = l;
     wished-in = wished-in (S .n) t s ok k;
-    wished-few = omega (arith, wished-long (S .n) t s ok k, keep-length (λ (p : ℕ). eqb (getD (judgingOf t .cores) p 0) 0) (assumedIn t s), assumed-length s 0 (levelOf t .rests), rests-count t (ok .formed), ok .formed .softs-few);
+    wished-few = omega (arith, wished-long (S .n) t s ok k, keep-length (λ (p : ℕ). eqb (getD (levelJudging t .cores) p 0) 0) (assumedIn t s), assumed-length s 0 (levelOf t .rests), rests-count t (ok .formed), ok .formed .softs-few);
     places-long = sym (wished-long (S .n) t s ok k);
-    places-apart = apart (entryPlaces t s) (keep-distinct (λ p. eqb (getD (judgingOf t .cores) p 0) 0) (assumedIn t s) (assumed-distinct s 0 (levelOf t .rests)));
-    places-in = all-over (λ p. Holds s (levelOf t .rests) p × (eqb (getD (judgingOf t .cores) p 0) 0 ≡ true)) (λ m. m < length (judgingOf t .literals)) (λ m z. below (S .n) t s ok k m (z .0)) (entryPlaces t s) (entries-are (S .n) t s ok k);
-    assumed-in = all-over (Holds s (levelOf t .rests)) (λ m. m < length (judgingOf t .literals)) (below (S .n) t s ok k) (assumedIn t s) (assumed-heavy s (levelOf t .rests));
+    places-apart = apart (entryPlaces t s) (keep-distinct (λ p. eqb (getD (levelJudging t .cores) p 0) 0) (assumedIn t s) (assumed-distinct s 0 (levelOf t .rests)));
+    places-in = all-over (λ p. Holds s (levelOf t .rests) p × (eqb (getD (levelJudging t .cores) p 0) 0 ≡ true)) (λ m. m < length (levelJudging t .literals)) (λ m z. below (S .n) t s ok k m (z .0)) (entryPlaces t s) (entries-are (S .n) t s ok k);
+    assumed-in = all-over (Holds s (levelOf t .rests)) (λ m. m < length (levelJudging t .literals)) (below (S .n) t s ok k) (assumedIn t s) (assumed-heavy s (levelOf t .rests));
     judging = judging-formed t (ok .formed) (ok .ordered);
     few = omega (arith, literals-long (S .n) t s ok k, rests-count t (ok .formed), ok .formed .softs-few);
   }
@@ -261,7 +261,7 @@ module _ (S : Source) (f : FormedSource S) (level : ℕ) (lowers : List ℕ) (t 
     entries = entry-heavy (S .n) t s ok k;
     wishes = wish-holds (S .n) t s ok k;
     each = assumed-heavy s (levelOf t .rests);
-    every = λ M a m h. sym (judging-level t (ok .formed) M m) ∙ every-assumed s (λ p. violatedAt (judgingOf t) M p ≡ false) (levelOf t .rests) a m h;
+    every = λ M a m h. sym (judging-level t (ok .formed) M m) ∙ every-assumed s (λ p. violatedAt (levelJudging t) M p ≡ false) (levelOf t .rests) a m h;
     unmet = λ M m h v w. true≢false (sym v ∙ judging-level t (ok .formed) M m ∙ w);
   }
 

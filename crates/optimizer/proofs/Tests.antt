@@ -36,7 +36,7 @@ use Rattle.cores.specs.Sums.{Holds}
 use Rattle.cores.specs.Soft.{entry, derived, coreNumber, kindAt}
 use Rattle.cores.specs.Level.{assumedFrom}
 use Rattle.cores.specs.Judging.{kindFrom, violatedAt, firstViolated}
-use Rattle.cores.specs.Tables.{SoundTables, noSoft, kindOf, levelOf}
+use Rattle.cores.specs.Tables.{SoundTables, noSoft, kindOf, levelOf, levelJudging}
 use Rattle.cores.specs.declared.judge.Judged.{Judged}
 use Rattle.cores.specs.declared.judge.Judged.the-variants.{Met}
 use Rattle.cores.specs.declared.judge.Judged.the-variants as judged
@@ -48,7 +48,7 @@ use Rattle.optimizer.specs.declared.state.Blame.{Blame}
 use Rattle.optimizer.specs.declared.state.Work.{Work}
 use Rattle.optimizer.specs.declared.state.Judgement.the-variants.{Dead}
 use Rattle.optimizer.specs.Source.{Levels, Source, levelAt, rulesIn, ruleTables, firstIn}
-use Rattle.optimizer.specs.Turn.{QueryTables, queryOf, judgingOf, assumedIn, entryPlaces, wishedIn, settledFrom, inClass, softOrWanted, judgeFull, blamedOf, assumedBy}
+use Rattle.optimizer.specs.Turn.{QueryTables, queryOf, assumedIn, entryPlaces, wishedIn, settledFrom, inClass, softOrWanted, judgeFull, blamedOf, assumedBy}
 use Rattle.optimizer.specs.State.{freshWork}
 use Rattle.optimizer.specs.Advance.{workQuery}
 use Rattle.optimizer.specs.Ready.{GoodBlame}
@@ -116,7 +116,7 @@ module _ (n : ℕ) (t : LevelTables) (s : ℕ) (ok : SoundTables t) (k : All (Ki
   abbrev softsHere : List Soft
   softsHere = take (t .count) (t .softs)
 
-  number-at : (p : ℕ) → getD (judgingOf t .cores) p 0 ≡ coreNumber (kindAt (levelOf t .kinds) p)
+  number-at : (p : ℕ) → getD (levelJudging t .cores) p 0 ≡ coreNumber (kindAt (levelOf t .kinds) p)
   number-at p =
       List·getD-map (λ (r : Soft). r .core) softsHere p noSoft
       ∙ sym (ap coreNumber (List·getD-map kindOf softsHere p noSoft) ∙ number-of (getD softsHere p noSoft .literal) (getD softsHere p noSoft .core) (getD softsHere p noSoft .index))
@@ -126,7 +126,7 @@ module _ (n : ℕ) (t : LevelTables) (s : ℕ) (ok : SoundTables t) (k : All (Ki
 
   pub wishes-same : wishedIn t s ≡ wishesBy (levelOf t) s
   wishes-same =
-      map-same (λ (p : ℕ). Holds s (levelOf t .rests) p × (eqb (getD (judgingOf t .cores) p 0) 0 ≡ true)) (λ (p : ℕ). negℤ (getD (judgingOf t .literals) p (pos 0)))
+      map-same (λ (p : ℕ). Holds s (levelOf t .rests) p × (eqb (getD (levelJudging t .cores) p 0) 0 ≡ true)) (λ (p : ℕ). negℤ (getD (levelJudging t .literals) p (pos 0)))
       (λ (p : ℕ). wishBy (kindAt (levelOf t .kinds) p)) (λ p z. sym (ap wishBy (kind-of n t s ok k p (z .1)))) (entryPlaces t s) (entries-are n t s ok k)
       ∙ ap (map (λ (p : ℕ). wishBy (kindAt (levelOf t .kinds) p))) entries-same
 
@@ -185,8 +185,8 @@ module _ (S : Source) (w : Work) (o : OnLevel S w) {b : Blame} (g : GoodBlame (w
   full-same : verdictBy (judgeFull S q (blamedOf b) (t .value)) ≡ setVerdict S (workOf L w) (blamedOf b) found
   unfolding queryOf
   full-same =
-      ap (λ (M : Set). verdictBy (pick (inClass S (w .level) (w .lowers) M) (softOrWanted (firstViolated (violatedAt (judgingOf (w .tables)) M) (blamedOf b ++ assumedIn (w .tables) (w .stratum)))) Dead)) (set-is (S .n) t d)
-      ∙ judged-same (inClass S (w .level) (w .lowers) found) (firstViolated (violatedAt (judgingOf (w .tables)) found) (blamedOf b ++ assumedIn (w .tables) (w .stratum)))
+      ap (λ (M : Set). verdictBy (pick (inClass S (w .level) (w .lowers) M) (softOrWanted (firstViolated (violatedAt (levelJudging (w .tables)) M) (blamedOf b ++ assumedIn (w .tables) (w .stratum)))) Dead)) (set-is (S .n) t d)
+      ∙ judged-same (inClass S (w .level) (w .lowers) found) (firstViolated (violatedAt (levelJudging (w .tables)) found) (blamedOf b ++ assumedIn (w .tables) (w .stratum)))
       ∙ ap₂ (λ (c : Bool) (U : ℕ → Bool). pick (isStable (S .n) (rulesIn S) found && c) (metOr (firstViolated U (blamedOf b ++ assumedIn (w .tables) (w .stratum)))) (conflict none))
       (costs-same L (w .lowers) found (w .level)) (fun-ext (λ p. judging-level (w .tables) (o .sound .formed) found p))
 
@@ -223,7 +223,7 @@ module _ (S : Source) (b : Blame) (e : blamedOf b ≡ []) (t : Places) (d : Soun
   start-full : verdictBy (judgeFull S (workQuery freshWork) (blamedOf b) (t .value)) ≡ pick (isStable (S .n) (rulesIn S) seenSet) wanted (conflict none)
   unfolding queryOf assumedFrom settledFrom firstViolated
   start-full =
-      ap₂ (λ (M : Set) (ms : List ℕ). verdictBy (pick (inClass S 0 (freshWork .lowers) M) (softOrWanted (firstViolated (violatedAt (judgingOf (freshWork .tables)) M) (ms ++ []))) Dead)) (set-is (S .n) t d) e
+      ap₂ (λ (M : Set) (ms : List ℕ). verdictBy (pick (inClass S 0 (freshWork .lowers) M) (softOrWanted (firstViolated (violatedAt (levelJudging (freshWork .tables)) M) (ms ++ []))) Dead)) (set-is (S .n) t d) e
       ∙ judged-same (isStable (S .n) (rulesIn S) seenSet && true) Met
       ∙ ap (λ (x : Bool). pick x wanted (conflict none)) (and-true (isStable (S .n) (rulesIn S) seenSet))
 

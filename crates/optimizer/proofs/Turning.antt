@@ -17,7 +17,7 @@ use Rattle.counting.specs.declared.counters.Index.{Index}
 use Rattle.counting.specs.Counters.{Counters}
 use borrow.Author.Tests.{eq-eqb, ne-eqb, eqb-false}
 use Rattle.asp.specs.Sets.{Set, setOf, pick}
-use Rattle.asp.specs.Program.{All}
+use Rattle.asp.specs.Program.{All, Out, Distinct}
 use Rattle.asp.specs.Stable.{member}
 use Rattle.search.specs.declared.trail.Places.{Places}
 use Rattle.search.specs.Places.{places, SoundTrail, backOf}
@@ -26,7 +26,7 @@ use Rattle.search.specs.Step.{testOf, Stepped, stepped, stepOf, movedBy}
 use Rattle.search.specs.declared.step.Tested.{Tested}
 use Rattle.search.specs.declared.step.Tested.the-variants.{RuleBroken, Full, SoftViolated, Open}
 use Rattle.search.proofs.Steps.{back-sound, test-says, step-sound}
-use Rattle.cores.specs.Sums.{Out, Distinct, Holds}
+use Rattle.cores.specs.Sums.{Holds}
 use Rattle.cores.proofs.Sums.{members-weigh, wsum-replicate-one}
 use Rattle.cores.specs.Judging.{violatedAt, firstViolated}
 use Rattle.cores.specs.declared.judge.Judged.{Judged}

@@ -10,14 +10,13 @@ use lib.Dec.{eqb, ltb}
 use lib.ListN.{length, getD, replicate, length-replicate}
 use borrow.Author.Tests.{lt-ltb, le-ltb}
 use Rattle.asp.specs.Sets.{setOf, pick}
-use Rattle.asp.specs.Program.{All}
+use Rattle.asp.specs.Program.{All, Distinct}
 use Rattle.asp.specs.Stable.{member}
 use Rattle.asp.specs.Tables.{span}
 use Rattle.search.specs.Machine as machine
 use Rattle.search.specs.declared.trail.Places.{Places}
 use Rattle.search.specs.Places.{SoundTrail, trailOf}
 use Rattle.search.proofs.Search as search
-use Rattle.cores.specs.Sums.{Distinct}
 use Rattle.cores.specs.Identity.{Core, problem}
 use Rattle.cores.specs.Tables.{SoundTables, levelOf}
 use Rattle.cores.proofs.Sums.{below-or}

@@ -8,13 +8,13 @@ use Prim.Native.Nat.{ℕ, suc, _≤_, _<_}
 use lib.IntN.{ℤ, natAbs}
 use lib.ListN.{length, getD}
 use Rattle.asp.specs.Sets.{Set, In}
-use Rattle.asp.specs.Program.{All}
+use Rattle.asp.specs.Program.{All, Distinct}
 use Rattle.asp.specs.Cost.{cost}
 use Rattle.search.specs.Trail.{Trail, decision, NotOn, trailSet, flip}
 use Rattle.search.specs.Query.{Query, Wanted, Conflict, IsOpen}
 use Rattle.search.specs.Machine.{Verdict, open′, conflict, wanted}
 use Rattle.search.specs.Places.{SoundTrail}
-use Rattle.cores.specs.Sums.{Distinct, Holds}
+use Rattle.cores.specs.Sums.{Holds}
 use Rattle.cores.specs.Soft.{violated}
 use Rattle.cores.specs.Level.{room}
 use Rattle.cores.specs.Tables.{levelOf}

@@ -6,9 +6,8 @@ use lib.Dec.{eqb}
 use lib.IntN.{pos, natAbs}
 use lib.ListN.{length, getD}
 use Rattle.asp.specs.Sets.{In, pick}
-use Rattle.asp.specs.Program.{All}
+use Rattle.asp.specs.Program.{All, Distinct}
 use Rattle.asp.specs.Stable.{member}
-use Rattle.cores.specs.Sums.{Distinct}
 use Rattle.cores.specs.Judging.{FormedJudging}
 use Rattle.cores.specs.Tables.{Counted}
 use Rattle.optimizer.specs.declared.state.Blame.{Blame}

@@ -23,7 +23,7 @@ use Rattle.cores.specs.declared.judge.Judged.the-variants.{Met}
 use Rattle.cores.specs.declared.judge.Judged.the-variants as judged
 use Rattle.cores.specs.declared.soft.Soft.{Soft}
 use Rattle.cores.specs.declared.level.LevelTables.{LevelTables}
-use Rattle.cores.specs.Tables.{levelOf, heldIn}
+use Rattle.cores.specs.Tables.{levelOf, levelJudging}
 use Rattle.optimizer.specs.declared.state.Blame.{Blame}
 use Rattle.optimizer.specs.declared.state.Turn.{Turn}
 use Rattle.optimizer.specs.declared.state.Turn.the-variants.{Going, Without, Model}
@@ -46,26 +46,20 @@ pub record QueryTables : Type 0 where
 abbrev pub queryTables : ℕ → List ℕ → List ℤ → List ℕ → List ℕ → Judging → QueryTables
 queryTables level lowers wished ps as′ j = record { level = level; lowers = lowers; wished = wished; places = ps; assumed = as′; judging = j }
 
--- the tables of the level in work, as far as they are filled
-abbrev pub judgingOf : LevelTables → Judging
-judgingOf t =
-    judging (map (λ (r : Soft). r .literal) (take (t .count) (t .softs))) (map (λ (r : Soft). r .core) (take (t .count) (t .softs)))
-    (map (λ (r : Soft). r .index) (take (t .count) (t .softs))) (take (t .cores + 1) (t .ends)) (take (heldIn t) (t .members))
-
 -- "A question assumes the wishes with remaining weight at least the stratum": their places
 abbrev pub assumedIn : LevelTables → ℕ → List ℕ
 assumedIn t s = assumedFrom s 0 (levelOf t .rests)
 
 -- those of them that are an entry's
 abbrev pub entryPlaces : LevelTables → ℕ → List ℕ
-entryPlaces t s = entriesAmong (judgingOf t .cores) (assumedIn t s)
+entryPlaces t s = entriesAmong (levelJudging t .cores) (assumedIn t s)
 
 -- and the literals that these wish for: the complements of the entries' literals
 abbrev pub wishedIn : LevelTables → ℕ → List ℤ
-wishedIn t s = map (λ (p : ℕ). negℤ (getD (judgingOf t .literals) p (pos 0))) (entryPlaces t s)
+wishedIn t s = map (λ (p : ℕ). negℤ (getD (levelJudging t .literals) p (pos 0))) (entryPlaces t s)
 
 unfoldable pub queryOf : ℕ → List ℕ → LevelTables → ℕ → QueryTables
-queryOf level lowers t s = queryTables level lowers (wishedIn t s) (entryPlaces t s) (assumedIn t s) (judgingOf t)
+queryOf level lowers t s = queryTables level lowers (wishedIn t s) (entryPlaces t s) (assumedIn t s) (levelJudging t)
 
 -- the same from the columns of the tables: j, and the remaining weights
 abbrev pub queryBy : ℕ → List ℕ → Judging → List ℕ → ℕ → QueryTables

@@ -29,7 +29,7 @@ pub fn fill_of(w: Written) -> Fill
 }
 
 // The first n bytes, or all where there are fewer.
-fn front<'a>(bytes: &'a [u8], n: usize) -> &'a [u8]
+pub fn front<'a>(bytes: &'a [u8], n: usize) -> &'a [u8]
     ensures { λ r. ⌜ now r ≡ take n (now (bytes .entry)) ⌝ }
 {
     if n <= bytes.len() {

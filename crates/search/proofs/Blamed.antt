@@ -12,7 +12,7 @@ use Rattle.asp.specs.Sets.{pick}
 use Rattle.asp.specs.Program.{All}
 use Rattle.asp.proofs.Signed.{clash}
 use Rattle.search.specs.Soft.{blamedFrom}
-use Rattle.search.proofs.Search.{Out, Distinct}
+use Rattle.asp.specs.Program.{Out, Distinct}
 
 -- Q holds of all that are blamed, just if it holds at each place where the table says 1
 pub blamed-all : (Q : ℕ → Type 0) (b : List ℕ) (i k : ℕ) → All Q (blamedFrom b i k) → (j : ℕ) → i ≤ j → j < i + k → getD b j 0 ≡ 1 → Q j

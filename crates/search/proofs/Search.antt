@@ -12,7 +12,7 @@ use lib.IntN.{ℤ, negℤ, natAbs, negℤ-negℤ}
 use lib.ListN.{length}
 use mir.Facts.{or-yes, eqb-yes, yes-eqb}
 use Rattle.asp.specs.Sets.{Set, In, pick}
-use Rattle.asp.specs.Program.{Literal, All}
+use Rattle.asp.specs.Program.{Literal, All, Out, Distinct}
 use Rattle.asp.specs.Stable.{holds, member}
 use Rattle.asp.proofs.Signed.{abs-neg}
 use Rattle.asp.proofs.Literals.{holds-complement}
@@ -78,14 +78,6 @@ tried-less G H (decision l ∷ t) f r = tried-less G H t f r
 tried-less G H (flipped l ∷ t) f r = (dead-less G H (decision (negℤ l) ∷ t) f (r .0), tried-less G H t f (r .1))
 
 -- ---- what is blamed
-
-abbrev pub Out : ℕ → List ℕ → Type 0
-Out m [] = Unit {0}
-Out m (x ∷ xs) = (¬ (m ≡ x)) × Out m xs
-
-abbrev pub Distinct : List ℕ → Type 0
-Distinct [] = Unit {0}
-Distinct (x ∷ xs) = Out x xs × Distinct xs
 
 not-member : (m : ℕ) (ms : List ℕ) → (¬ T (member m ms)) → Out m ms
 unfolding member

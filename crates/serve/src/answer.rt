@@ -34,7 +34,7 @@ pub fn load(s: Service, size: u32) -> Service
     let m = input::at_most(size, 65537);
     let k = input::read(&mut bytes, m);
     input::skip(size - m);
-    let r = planner::load::load(s, input::front(&bytes, k as usize));
+    let r = planner::load::load(s, planner::fill::front(&bytes, k as usize));
     let a = r.answer;
     loading(a);
     r.service

@@ -1,7 +1,8 @@
 // The commands, by their lines.
 use crate::input::after;
-use crate::input::front;
+use aspif::text::is_same;
 use console::number::Number;
+use planner::fill::front;
 
 pub enum Command {
     Nothing,
@@ -35,30 +36,6 @@ pub fn goes_on(c: Command) -> bool {
         Command::Unknown => true,
         Command::NoNumber => true,
     }
-}
-
-// Equal, byte by byte.
-fn is_same(a: &[u8], b: &[u8]) -> bool {
-    if a.len() != b.len() {
-        return false;
-    }
-    let mut i: usize = 0;
-    while i < a.len() {
-        if is_other(a, b, i) {
-            return false;
-        }
-        i += 1;
-    }
-    true
-}
-
-fn is_other(a: &[u8], b: &[u8], i: usize) -> bool {
-    if i < a.len() {
-        if i < b.len() {
-            return a[i] != b[i];
-        }
-    }
-    true
 }
 
 // The place of the first space, or the length.

@@ -64,14 +64,6 @@ pub fn read_line(bytes: &mut [u8]) -> Line {
     Line::End
 }
 
-// The first n bytes, or all where there are fewer.
-pub fn front<'a>(bytes: &'a [u8], n: usize) -> &'a [u8] {
-    if n <= bytes.len() {
-        return &bytes[..n];
-    }
-    bytes
-}
-
 // The bytes after place n.
 pub fn after<'a>(bytes: &'a [u8], n: usize) -> &'a [u8] {
     if n < bytes.len() {

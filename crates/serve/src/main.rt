@@ -48,7 +48,7 @@ fn turn(s: Service) -> Turned
             }
         }
         Line::Read { length } => {
-            let c = command::parse(input::front(&bytes, length));
+            let c = command::parse(planner::fill::front(&bytes, length));
             obey(s, c)
         }
     }

@@ -9,7 +9,6 @@ use Rattle.console.proofs.number.are_digits.Tie as tie
 use Rattle.console.proofs.number.are_digits.Reads as reads
 use Rattle.console.proofs.number.are_digits.Lts as lts
 use Rattle.aspif_lines.proofs.token.byte_at.Reads as byte-at-reads
-use Rattle.console.proofs.number.is_digit.Reads as is-digit-reads
 
 abbrev Inv-loop : tie.InvT-loop
 Inv-loop s i₀ i = Judging s i

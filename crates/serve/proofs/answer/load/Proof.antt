@@ -9,7 +9,6 @@ use Rattle.serve.proofs.answer.load.Lts as lts
 use Rattle.planner.proofs.load.load.Reads as load-reads
 use Rattle.serve.proofs.answer.loading.Reads as loading-reads
 use Rattle.serve.proofs.input.at_most.Reads as at-most-reads
-use Rattle.serve.proofs.input.front.Reads as front-reads
 use Rattle.serve.proofs.input.read.Reads as read-reads
 use Rattle.serve.proofs.input.skip.Reads as skip-reads
 
