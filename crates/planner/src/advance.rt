@@ -2,9 +2,8 @@
 use crate::service::Service;
 use crate::service::Status;
 use crate::service::status_of;
+use crate::service::used;
 ghost use mathlib.Core.Path.{_≡_};
-ghost use Prim.Native.Nat.{_≤_};
-ghost use lib.ListN.{length, take};
 ghost use Rattle.planner.specs.Sound.{Sound};
 ghost use Rattle.planner.specs.Calls.{outcome, saysAdvance, advanceCall, saysRun, runCall};
 
@@ -17,14 +16,6 @@ pub enum Advancing {
 pub struct Advanced {
     pub service: Service,
     pub answer: Advancing,
-}
-
-// The levels in use.
-pub fn used<'a>(levels: &'a [i32], k: usize) -> &'a [i32]
-    requires { ⌜ k ≤ length (now levels) ⌝ }
-    ensures { λ r. ⌜ now r ≡ take k (now (levels .entry)) ⌝ }
-{
-    &levels[..k]
 }
 
 // One advance.

@@ -1,6 +1,6 @@
 // Load: a text in place of what was loaded.
-use crate::advance::used;
 use crate::service::Service;
+use crate::service::used;
 use aspif::text::Loading;
 ghost use Rattle.aspif_lines.specs.Text.{textOf};
 ghost use Rattle.planner.specs.Calls.{outcome, saysLoad, AfterLoad};

@@ -5,6 +5,7 @@ use optimizer::prepare::Preparation;
 use optimizer::state::Phase;
 use optimizer::state::Search;
 ghost use mathlib.Core.Path.{_≡_};
+ghost use lib.ListN.{take};
 ghost use Rattle.planner.specs.Held.{emptyCounts, emptyStored, freshService, statusOf};
 
 // A program, if one is loaded, what is prepared for it, and its optimization.
@@ -34,6 +35,16 @@ pub fn status_of(p: Phase) -> Status
         Phase::Incoherent => Status::Incoherent,
         Phase::Full => Status::Full,
     }
+}
+
+// The levels in use: the first k, or all where there are fewer.
+pub fn used<'a>(levels: &'a [i32], k: usize) -> &'a [i32]
+    ensures { λ r. ⌜ now r ≡ take k (now (levels .entry)) ⌝ }
+{
+    if k <= levels.len() {
+        return &levels[..k];
+    }
+    levels
 }
 
 fn empty_counts() -> Counts

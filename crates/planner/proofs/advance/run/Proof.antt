@@ -1,7 +1,6 @@
 -- `planner::advance::run` meets its contract. Assumes nothing.
 use mathlib.Core.Path.{sym}
 use borrow.Author.Tests.{not-true, not-false}
-use Rattle.planner.proofs.Link.{levels-reach}
 use Rattle.planner.proofs.Moving.{run-empty, run-is, reached-by, prepared-by}
 use borrow.Author.Needs.{needs}
 use Rattle.planner.proofs.advance.run.Statement.{statement}
@@ -14,7 +13,7 @@ slice-aggregate-used : tie.Need-slice-aggregate-used
 slice-aggregate-used c = sym (c .before .before .before .before .before .before .before .before .before .before .before .before .before .before .before .before .pre .formed (not-false _ (c .before .before .before .before .before .before .before .before .before .before .before .before .before .before .if1 .left)) .sized .levels)
 
 used-requires : tie.Need-used-requires
-used-requires c κs = levels-reach _ (c .before .before .before .before .before .before .before .before .before .before .before .before .before .before .before .before .pre .formed (not-false _ (c .before .before .before .before .before .before .before .before .before .before .before .before .before .before .if1 .left)))
+used-requires c κs = search needs
 
 run-requires : tie.Need-run-requires
 run-requires c κs =

@@ -1,7 +1,6 @@
 -- `planner::load::load` meets its contract. Assumes nothing.
 use Rattle.planner.proofs.Moving.{loaded-well, loaded-formed, prepared-for, load-accepted, load-refused}
 use mathlib.Core.Path.{sym}
-use Rattle.planner.proofs.Link.{levels-reach}
 use borrow.Author.Needs.{needs}
 use Rattle.planner.proofs.load.load.Statement.{statement}
 use Rattle.planner.proofs.load.load.Tie as tie
@@ -16,7 +15,7 @@ slice-aggregate-used : tie.Need-slice-aggregate-used
 slice-aggregate-used c = sym (loaded-well (c .before .before .before .before .before .before .before .before .before .before .before .load .result .stored) (c .before .before .before .before .before .before .before .before .before .enum-told .given .1) (c .before .before .before .before .before .before .before .before .before .before .before .load .ensures .1) .sized .levels)
 
 used-requires : tie.Need-used-requires
-used-requires c κs = levels-reach _ (loaded-well (c .before .before .before .before .before .before .before .before .before .before .before .load .result .stored) (c .before .before .before .before .before .before .before .before .before .enum-told .given .1) (c .before .before .before .before .before .before .before .before .before .before .before .load .ensures .1))
+used-requires c κs = search needs
 
 prepare-requires : tie.Need-prepare-requires
 prepare-requires c κs =
