@@ -11,7 +11,7 @@ use Rattle.asp.specs.Sets.{pick}
 use Rattle.counting.specs.declared.counters.Marks.{Marks}
 use Rattle.counting.specs.Moves.{Fit}
 use Rattle.counting.specs.declared.counters.Index.{Index}
-use Rattle.counting.specs.Counters.{index, Shaped, Counters, counters, marks, plusOne, least, lowerMarks, raiseMarks, lowerAt, raiseAt, lowerFrom, raiseFrom, first, listLength, shiftOf, decideOf, releaseOf}
+use Rattle.counting.specs.Counters.{index, Shaped, Counters, counters, marks, plusOne, least, lowerMarks, raiseMarks, freedMarks, freed, lowerAt, raiseAt, lowerFrom, raiseFrom, first, listLength, shiftOf, decideOf, releaseOf}
 
 pub more-one : (k : ℕ) → k < 65535 → k + 1 ≡ plusOne k
 more-one k h = rw (lt-ltb k 65535 h)
@@ -31,18 +31,21 @@ module _ (m : Marks) (r k : ℕ) where
   pub marks-far : 2 < k → m ≡ lowerMarks r k m
   marks-far h = rw (lt-ltb 2 k h)
 
-  pub marks-broken : k ≤ 2 → k ≡ 1 → {b l : ℕ} → b ≡ plusOne (m .broken) → l ≡ least r (m .low) → marks b l ≡ lowerMarks r k m
-  marks-broken h e p q = rw (le-ltb 2 k h, eq-eqb k 1 e, p, q)
+  pub marks-broken : k ≤ 2 → k ≡ 1 → {b l z : ℕ} → b ≡ plusOne (m .broken) → l ≡ least r (m .low) → z ≡ least r (m .zero) → marks b l z (m .atom) ≡ lowerMarks r k m
+  marks-broken h e p q s = rw (le-ltb 2 k h, eq-eqb k 1 e, p, q, s)
 
-  pub marks-near : k ≤ 2 → (k ≡ 1 → ⊥) → {l : ℕ} → l ≡ least r (m .low) → marks (m .broken) l ≡ lowerMarks r k m
+  pub marks-near : k ≤ 2 → (k ≡ 1 → ⊥) → {l : ℕ} → l ≡ least r (m .low) → marks (m .broken) l (m .zero) (m .atom) ≡ lowerMarks r k m
   marks-near h e q = rw (le-ltb 2 k h, ne-eqb k 1 e, q)
 
 module _ (m : Marks) (k : ℕ) where
-  pub marks-mended : k ≡ 0 → {b : ℕ} → b ≡ m .broken - 1 → marks b (m .low) ≡ raiseMarks k m
+  pub marks-mended : k ≡ 0 → {b : ℕ} → b ≡ m .broken - 1 → marks b (m .low) (m .zero) (m .atom) ≡ raiseMarks k m
   marks-mended e q = rw (eq-eqb k 0 e, q)
 
   pub marks-same : (k ≡ 0 → ⊥) → m ≡ raiseMarks k m
   marks-same e = rw (ne-eqb k 0 e)
+
+pub marks-freed : (m : Marks) (a : ℕ) {x : ℕ} → x ≡ least a (m .atom) → marks (m .broken) (m .low) (m .zero) x ≡ freedMarks a m
+marks-freed m a e = rw e
 
 -- ---- one rule
 
@@ -72,6 +75,39 @@ pub raise-all-len : (rs : List ℕ) (e k : ℕ) (t : Counters) → length (raise
 unfolding raiseFrom
 raise-all-len rs e zero t = refl
 raise-all-len rs e (suc k) t = raise-all-len rs (e + 1) k (raiseAt (getD rs e 0) t) ∙ raise-len (getD rs e 0) t
+
+-- ---- the mark of the atoms stays
+
+lower-atom : (r : ℕ) (t : Counters) → lowerAt r t .marks .atom ≡ t .marks .atom
+unfolding lowerAt
+lower-atom r t = go (ltb 2 (getD (t .key) r 0)) (eqb (getD (t .key) r 0) 1)
+  where
+    go : (b d : Bool) → pick b (t .marks) (pick d (marks (plusOne (t .marks .broken)) (least r (t .marks .low)) (least r (t .marks .zero)) (t .marks .atom)) (marks (t .marks .broken) (least r (t .marks .low)) (t .marks .zero) (t .marks .atom))) .atom ≡ t .marks .atom
+    go true d = refl
+    go false true = refl
+    go false false = refl
+
+raise-atom : (r : ℕ) (t : Counters) → raiseAt r t .marks .atom ≡ t .marks .atom
+unfolding raiseAt
+raise-atom r t = go (eqb (getD (t .key) r 0) 0)
+  where
+    go : (b : Bool) → pick b (marks (t .marks .broken - 1) (t .marks .low) (t .marks .zero) (t .marks .atom)) (t .marks) .atom ≡ t .marks .atom
+    go true = refl
+    go false = refl
+
+lower-all-atom : (rs : List ℕ) (e k : ℕ) (t : Counters) → lowerFrom rs e k t .marks .atom ≡ t .marks .atom
+unfolding lowerFrom
+lower-all-atom rs e zero t = refl
+lower-all-atom rs e (suc k) t = lower-all-atom rs (e + 1) k (lowerAt (getD rs e 0) t) ∙ lower-atom (getD rs e 0) t
+
+pub raise-all-atom : (rs : List ℕ) (e k : ℕ) (t : Counters) → raiseFrom rs e k t .marks .atom ≡ t .marks .atom
+unfolding raiseFrom
+raise-all-atom rs e zero t = refl
+raise-all-atom rs e (suc k) t = raise-all-atom rs (e + 1) k (raiseAt (getD rs e 0) t) ∙ raise-atom (getD rs e 0) t
+
+pub shift-atom : (o : Index) (down up : ℕ) (t : Counters) → shiftOf o down up t .marks .atom ≡ t .marks .atom
+unfolding shiftOf
+shift-atom o down up t = raise-all-atom (o .rules) (first o up) (listLength o up) (lowerFrom (o .rules) (first o down) (listLength o down) t) ∙ lower-all-atom (o .rules) (first o down) (listLength o down) t
 
 -- ---- the loops
 
@@ -164,13 +200,13 @@ module _ (o : Index) (a s : ℕ) (t : Counters) where
   unfolding releaseOf
   released-none e = rw (eq-eqb s 0 e)
 
-  pub released-in : (s ≡ 0 → ⊥) → s ≡ 1 → {t₁ : Counters} → t₁ ≡ shiftOf o (a * 2 + 1) (a * 2) t → t₁ ≡ releaseOf o a s t
+  pub released-in : (s ≡ 0 → ⊥) → s ≡ 1 → {m : Marks} → m ≡ freedMarks a (t .marks) → {t₁ : Counters} → t₁ ≡ shiftOf o (a * 2 + 1) (a * 2) (counters (t .key) m) → t₁ ≡ releaseOf o a s t
   unfolding releaseOf
-  released-in h e q = rw (ne-eqb s 0 h, eq-eqb s 1 e) q
+  released-in h e p q = rw (ne-eqb s 0 h, eq-eqb s 1 e, ← p) q
 
-  pub released-out : (s ≡ 0 → ⊥) → (s ≡ 1 → ⊥) → {t₁ : Counters} → t₁ ≡ shiftOf o (a * 2) (a * 2 + 1) t → t₁ ≡ releaseOf o a s t
+  pub released-out : (s ≡ 0 → ⊥) → (s ≡ 1 → ⊥) → {m : Marks} → m ≡ freedMarks a (t .marks) → {t₁ : Counters} → t₁ ≡ shiftOf o (a * 2) (a * 2 + 1) (counters (t .key) m) → t₁ ≡ releaseOf o a s t
   unfolding releaseOf
-  released-out h e q = rw (ne-eqb s 0 h, ne-eqb s 1 e) q
+  released-out h e p q = rw (ne-eqb s 0 h, ne-eqb s 1 e, ← p) q
 
 -- ---- lengths
 
@@ -182,10 +218,10 @@ pub release-len : (o : Index) (a y : ℕ) (t : Counters) → length (releaseOf o
 unfolding releaseOf
 release-len o a y t = go (eqb y 0) (eqb y 1)
   where
-    go : (b d : Bool) → length (pick b t (pick d (shiftOf o (a * 2 + 1) (a * 2) t) (shiftOf o (a * 2) (a * 2 + 1) t)) .key) ≡ length (t .key)
+    go : (b d : Bool) → length (pick b t (pick d (shiftOf o (a * 2 + 1) (a * 2) (freed a t)) (shiftOf o (a * 2) (a * 2 + 1) (freed a t))) .key) ≡ length (t .key)
     go true d = refl
-    go false true = shift-len o (a * 2 + 1) (a * 2) t
-    go false false = shift-len o (a * 2) (a * 2 + 1) t
+    go false true = shift-len o (a * 2 + 1) (a * 2) (freed a t)
+    go false false = shift-len o (a * 2) (a * 2 + 1) (freed a t)
 
 pub decide-len : (o : Index) (a s : ℕ) (t : Counters) → length (decideOf o a s t .key) ≡ length (t .key)
 unfolding decideOf

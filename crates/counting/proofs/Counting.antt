@@ -14,13 +14,15 @@ use Rattle.asp.proofs.Signed.{abs-neg}
 use Rattle.search.specs.declared.trail.Places.{Places}
 use Rattle.search.specs.Places.{places, sideOf, truthOf, putOf, dropOf, Good}
 use Rattle.search.specs.Scan.{Rules, rowOf}
+use Rattle.search.specs.Branch.{DecidedBelow}
 use Rattle.search.proofs.PlacesLaws.{good-drop}
 use Rattle.counting.specs.declared.counters.Index.{Index}
-use Rattle.counting.specs.Counters.{Counters, first, listLength, lowerFrom, raiseFrom, shiftOf, decideOf, releaseOf}
+use Rattle.counting.specs.Counters.{Counters, least, freed, first, listLength, lowerFrom, raiseFrom, shiftOf, decideOf, releaseOf}
 use Rattle.counting.specs.Moves.{CountedTrail, countedTrail, putAll, pushAll, dropAll, backAllFrom, backAll}
 use Rattle.counting.specs.Counts.{sumFrom, countFrom, timesIn, weigh, term, keyOf, MarksRight, Tracks, Indexed}
 use Rattle.counting.proofs.Sums.{sum-change, sum-bound, sum-part}
-use Rattle.counting.proofs.Marking.{lower-all, raise-all}
+use Rattle.counting.proofs.Marking.{least-le, lower-all, raise-all}
+use Rattle.counting.proofs.CounterLaws.{shift-atom}
 
 pub weigh-le : (n x : ℕ) → weigh n x ≤ n + n
 weigh-le n x = go (eqb x 1) (eqb x 0)
@@ -36,6 +38,35 @@ small-set v c x h l s a = go (eqb a c) refl
     go : (b : Bool) → eqb a c ≡ b → getD (set v c x) a 0 ≤ 2
     go true e = rw (eqb-true a c e, getD-set-same v c x 0 h) l
     go false e = rw (getD-set-other v c a x 0 (eqb-false a c e)) (s a)
+
+-- an undecided atom stays undecided
+set-none : (v : List ℕ) (c j : ℕ) → c < length v → getD v c 0 ≡ 0 → getD v j 0 ≡ getD (set v c 0) j 0
+set-none v c j h e = go (eqb j c) refl
+  where
+    go : (b : Bool) → eqb j c ≡ b → getD v j 0 ≡ getD (set v c 0) j 0
+    go true w = let z : j ≡ c = eqb-true j c w in rw z (e ∙ sym (getD-set-same v c 0 0 h))
+    go false w = sym (getD-set-other v c j 0 0 (eqb-false j c w))
+
+-- an atom gets a value other than 0
+below-decided : (v : List ℕ) (c x a : ℕ) → c < length v → 1 ≤ x → DecidedBelow v a → DecidedBelow (set v c x) a
+below-decided v c x a h l d = record { decided = λ j p q. go j p q (eqb j c) refl }
+  where
+    go : (j : ℕ) → 1 ≤ j → j < a → (b : Bool) → eqb j c ≡ b → getD (set v c x) j 0 ≡ 0 → ⊥
+    go j p q true e z = let w : j ≡ c = eqb-true j c e in let y : x ≡ 0 = sym (getD-set-same v c x 0 h) ∙ rw w at z in omega arith
+    go j p q false e z = d .decided j p q (sym (getD-set-other v c j x 0 (eqb-false j c e)) ∙ z)
+
+-- an atom becomes undecided: the mark falls to it
+below-freed : (v : List ℕ) (c a : ℕ) → DecidedBelow v a → DecidedBelow (set v c 0) (least c a)
+below-freed v c a d = record { decided = λ j p q z. let w = least-le j c a q in d .decided j p (w .1) (sym (getD-set-other v c j 0 0 (λ y. absurd (omega (arith, w .0)))) ∙ z) }
+
+module _ (g : Rules) (o : Index) (v : List ℕ) (a : ℕ) where
+  freed-counted : (t : Counters) → Tracks g o v t → Tracks g o v (freed a t)
+  freed-counted t k = record {
+    marked = record { long = k .marked .long; broken = k .marked .broken; low = k .marked .low; zero = k .marked .zero };
+    small = k .small;
+    each = k .each;
+    below = record { decided = λ j p q. k .below .decided j p (least-le j a (t .marks .atom) q .1) };
+  }
 
 module _ (g : Rules) (o : Index) (ix : Indexed g o) where
   key-bound : (v : List ℕ) (r : ℕ) → keyOf g o v r ≤ 4102
@@ -61,15 +92,16 @@ module _ (g : Rules) (o : Index) (ix : Indexed g o) where
   -- one list falls, the other rises
   shift-counted : (v : List ℕ) (t : Counters) (c x down up : ℕ) → Tracks g o v t → c < length v → x ≤ 2 → down < 2050 → up < 2050
       → ((r : ℕ) → timesIn o r down ≤ keyOf g o v r) → ((r : ℕ) → keyOf g o (set v c x) r + timesIn o r down ≡ keyOf g o v r + timesIn o r up)
-      → Tracks g o (set v c x) (shiftOf o down up t)
+      → DecidedBelow (set v c x) (t .marks .atom) → Tracks g o (set v c x) (shiftOf o down up t)
   unfolding shiftOf
-  shift-counted v t c x down up k l s hd hu room moved =
+  shift-counted v t c x down up k l s hd hu room moved db =
       let low = lower-all (g .count) (ix .few) (o .rules) (first o down) (listLength o down) t (k .marked) (λ e p q. ix .inside down e hd p q) (λ r h. omega (arith, k .each r h, room r)) in
       let high = raise-all (g .count) (ix .few) (o .rules) (first o up) (listLength o up) (lowerFrom (o .rules) (first o down) (listLength o down) t) (low .0) (λ e p q. ix .inside up e hu p q) (λ r h. omega (arith, low .1 r h, k .each r h, key-bound v r, ix .once r up)) in
       record {
         marked = high .0;
         small = small-set v c x l s (k .small);
         each = λ r h. omega (arith, high .1 r h, low .1 r h, k .each r h, moved r);
+        below = rw (shift-atom o down up t) db;
       }
 
   module _ (v : List ℕ) (t : Counters) (a : ℕ) (k : Tracks g o v t) (long : length v ≡ 1025) (h : a ≤ 1024) where
@@ -85,25 +117,26 @@ module _ (g : Rules) (o : Index) (ix : Indexed g o) where
     decide-counted s e p q = go (eqb s 1) refl
       where
         go : (b : Bool) → eqb s 1 ≡ b → Tracks g o (set v a s) (pick b (shiftOf o (a * 2) (a * 2 + 1) t) (shiftOf o (a * 2 + 1) (a * 2) t))
-        go true w = let z : s ≡ 1 = eqb-true s 1 w in rw z (shift-counted v t a 1 (a * 2) (a * 2 + 1) k (omega arith) (omega arith) (omega arith) (omega arith) (λ r. omega (arith, enough 0 e r)) (λ r. omega (arith, by-values 0 1 e r)))
-        go false w = let y = eqb-false s 1 w in let z : s ≡ 2 = omega arith in rw z (shift-counted v t a 2 (a * 2 + 1) (a * 2) k (omega arith) (omega arith) (omega arith) (omega arith) (λ r. omega (arith, enough 0 e r)) (λ r. omega (arith, by-values 0 2 e r)))
+        go true w = let z : s ≡ 1 = eqb-true s 1 w in rw z (shift-counted v t a 1 (a * 2) (a * 2 + 1) k (omega arith) (omega arith) (omega arith) (omega arith) (λ r. omega (arith, enough 0 e r)) (λ r. omega (arith, by-values 0 1 e r)) (below-decided v a 1 (t .marks .atom) (omega arith) (omega arith) (k .below)))
+        go false w = let y = eqb-false s 1 w in let z : s ≡ 2 = omega arith in rw z (shift-counted v t a 2 (a * 2 + 1) (a * 2) k (omega arith) (omega arith) (omega arith) (omega arith) (λ r. omega (arith, enough 0 e r)) (λ r. omega (arith, by-values 0 2 e r)) (below-decided v a 2 (t .marks .atom) (omega arith) (omega arith) (k .below)))
 
     pub release-counted : Tracks g o (set v a 0) (releaseOf o a (getD v a 0) t)
     unfolding releaseOf
     release-counted = go (eqb (getD v a 0) 0) refl (eqb (getD v a 0) 1) refl
       where
-        go : (b : Bool) → eqb (getD v a 0) 0 ≡ b → (d : Bool) → eqb (getD v a 0) 1 ≡ d → Tracks g o (set v a 0) (pick b t (pick d (shiftOf o (a * 2 + 1) (a * 2) t) (shiftOf o (a * 2) (a * 2 + 1) t)))
+        go : (b : Bool) → eqb (getD v a 0) 0 ≡ b → (d : Bool) → eqb (getD v a 0) 1 ≡ d → Tracks g o (set v a 0) (pick b t (pick d (shiftOf o (a * 2 + 1) (a * 2) (freed a t)) (shiftOf o (a * 2) (a * 2 + 1) (freed a t))))
         go true w d u = let e : getD v a 0 ≡ 0 = eqb-true (getD v a 0) 0 w in record {
           marked = k .marked;
           small = small-set v a 0 (omega arith) (omega arith) (k .small);
           each = λ r c. omega (arith, k .each r c, by-values 0 0 e r);
+          below = record { decided = λ j p q z. k .below .decided j p q (set-none v a j (omega arith) e ∙ z) };
         }
-        go false w true u = let e : getD v a 0 ≡ 1 = eqb-true (getD v a 0) 1 u in shift-counted v t a 0 (a * 2 + 1) (a * 2) k (omega arith) (omega arith) (omega arith) (omega arith) (λ r. omega (arith, enough 1 e r)) (λ r. omega (arith, by-values 1 0 e r))
+        go false w true u = let e : getD v a 0 ≡ 1 = eqb-true (getD v a 0) 1 u in shift-counted v (freed a t) a 0 (a * 2 + 1) (a * 2) (freed-counted g o v a t k) (omega arith) (omega arith) (omega arith) (omega arith) (λ r. omega (arith, enough 1 e r)) (λ r. omega (arith, by-values 1 0 e r)) (below-freed v a (t .marks .atom) (k .below))
         go false w false u =
             let y = eqb-false (getD v a 0) 0 w in
             let z = eqb-false (getD v a 0) 1 u in
             let e : getD v a 0 ≡ 2 = omega (arith, k .small a) in
-            shift-counted v t a 0 (a * 2) (a * 2 + 1) k (omega arith) (omega arith) (omega arith) (omega arith) (λ r. omega (arith, enough 2 e r)) (λ r. omega (arith, by-values 2 0 e r))
+            shift-counted v (freed a t) a 0 (a * 2) (a * 2 + 1) (freed-counted g o v a t k) (omega arith) (omega arith) (omega arith) (omega arith) (λ r. omega (arith, enough 2 e r)) (λ r. omega (arith, by-values 2 0 e r)) (below-freed v a (t .marks .atom) (k .below))
 
   side-some : (l : ℤ) → (1 ≤ sideOf l) × (sideOf l ≤ 2)
   side-some (pos n) = (omega arith, omega arith)

@@ -19,6 +19,7 @@ use Rattle.search.specs.declared.trail.Places.{Places}
 use Rattle.search.specs.Places.{places, putOf, dropOf, backFrom, backOf, Good}
 use Rattle.search.specs.Scan.{Rules, rules, scanOf}
 use Rattle.search.specs.Soft.{AssumedEntries, FormedSoft}
+use Rattle.search.specs.Branch.{DecidedBelow, LowestIs, lowestOf}
 use Rattle.search.specs.Step.{unbroken, testBy, testOf, stepped, stepOf}
 use Rattle.search.proofs.StepLaws.{step-broken, step-full, step-violated, step-open, open-room, open-small}
 use Rattle.counting.specs.declared.counters.Marks.{Marks}
@@ -51,8 +52,11 @@ module _ {pool : List ℤ} {rows starts lists : List ℕ} {count : ℕ} {v key :
   pub counted-marked : Tracks (rules pool rows count) (index starts lists) v (counters key m) → MarksRight count (counters key m)
   counted-marked k = k .marked
 
-  pub relow : Tracks (rules pool rows count) (index starts lists) v (counters key m) → {q : Marks} → MarksRight count (counters key q) → Tracks (rules pool rows count) (index starts lists) v (counters key q)
-  relow k h = record { marked = h; small = k .small; each = k .each }
+  pub relow : Tracks (rules pool rows count) (index starts lists) v (counters key m) → {b l z c : ℕ} → MarksRight count (counters key (marks b l z c)) → {n a : ℕ} → LowestIs v n a → Tracks (rules pool rows count) (index starts lists) v (counters key (marks b l z a))
+  relow k h w = record { marked = record { long = h .long; broken = h .broken; low = h .low; zero = h .zero }; small = k .small; each = k .each; below = w .below }
+
+  pub counted-below : Tracks (rules pool rows count) (index starts lists) v (counters key m) → DecidedBelow v (m .atom)
+  counted-below k = k .below
 
   pub counted-fit : Indexed (rules pool rows count) (index starts lists) → Tracks (rules pool rows count) (index starts lists) v (counters key m) → {ls : List ℤ} {ms : List ℕ} {len : ℕ} → Good (places ls ms v len) → Fit (index starts lists) v key
   counted-fit i k g = record { shaped = i .shaped; value-len = g .value-len; key-len = k .marked .long }

@@ -25,8 +25,8 @@ pub record Counters : Type 0 where
 abbrev pub counters : List ℕ → Marks → Counters
 counters k m = record { key = k; marks = m }
 
-abbrev pub marks : ℕ → ℕ → Marks
-marks b l = record { broken = b; low = l }
+abbrev pub marks : ℕ → ℕ → ℕ → ℕ → Marks
+marks b l z a = record { broken = b; low = l; zero = z; atom = a }
 
 -- one more, up to 65,535
 abbrev pub plusOne : ℕ → ℕ
@@ -36,10 +36,17 @@ abbrev pub least : ℕ → ℕ → ℕ
 least r low = pick (ltb r low) r low
 
 abbrev pub lowerMarks : ℕ → ℕ → Marks → Marks
-lowerMarks r k m = pick (ltb 2 k) m (pick (eqb k 1) (marks (plusOne (m .broken)) (least r (m .low))) (marks (m .broken) (least r (m .low))))
+lowerMarks r k m = pick (ltb 2 k) m (pick (eqb k 1) (marks (plusOne (m .broken)) (least r (m .low)) (least r (m .zero)) (m .atom)) (marks (m .broken) (least r (m .low)) (m .zero) (m .atom)))
 
 abbrev pub raiseMarks : ℕ → Marks → Marks
-raiseMarks k m = pick (eqb k 0) (marks (m .broken - 1) (m .low)) m
+raiseMarks k m = pick (eqb k 0) (marks (m .broken - 1) (m .low) (m .zero) (m .atom)) m
+
+-- atom a becomes undecided
+abbrev pub freedMarks : ℕ → Marks → Marks
+freedMarks a m = marks (m .broken) (m .low) (m .zero) (least a (m .atom))
+
+abbrev pub freed : ℕ → Counters → Counters
+freed a t = counters (t .key) (freedMarks a (t .marks))
 
 unfoldable pub lowerAt : ℕ → Counters → Counters
 lowerAt r t = counters (set (t .key) r (getD (t .key) r 0 - 1)) (lowerMarks r (getD (t .key) r 0) (t .marks))
@@ -69,4 +76,4 @@ unfoldable pub decideOf : Index → ℕ → ℕ → Counters → Counters
 decideOf o a s t = pick (eqb s 1) (shiftOf o (a * 2) (a * 2 + 1) t) (shiftOf o (a * 2 + 1) (a * 2) t)
 
 unfoldable pub releaseOf : Index → ℕ → ℕ → Counters → Counters
-releaseOf o a y t = pick (eqb y 0) t (pick (eqb y 1) (shiftOf o (a * 2 + 1) (a * 2) t) (shiftOf o (a * 2) (a * 2 + 1) t))
+releaseOf o a y t = pick (eqb y 0) t (pick (eqb y 1) (shiftOf o (a * 2 + 1) (a * 2) (freed a t)) (shiftOf o (a * 2) (a * 2 + 1) (freed a t)))

@@ -4,7 +4,7 @@ ghost use mathlib.Core.Path.{_≡_};
 ghost use Prim.Native.Nat.{ℕ, _+_, _-_, _*_, _≤_, _<_};
 ghost use lib.ListN.{length, getD, set};
 ghost use Rattle.counting.specs.Moves.{Fit};
-ghost use Rattle.counting.specs.Counters.{index, Shaped, counters, plusOne, lowerMarks, raiseMarks, lowerAt, raiseAt, lowerFrom, raiseFrom, shiftOf, decideOf, releaseOf};
+ghost use Rattle.counting.specs.Counters.{index, Shaped, counters, plusOne, lowerMarks, raiseMarks, freedMarks, lowerAt, raiseAt, lowerFrom, raiseFrom, shiftOf, decideOf, releaseOf};
 
 // The rules in which a literal is a condition, or an atom is a head: list i has the places from `starts` at i to `starts` at i + 1 of `rules`.
 pub struct Index {
@@ -12,10 +12,12 @@ pub struct Index {
     pub rules: [u16; 16385],
 }
 
-// How many rules are broken, and a rule below which all numbers are 2 or more.
+// Where the searches start: how many rules are broken; a rule below which all numbers are 2 or more; one below which none is 0; and an atom below which all are decided.
 pub struct Marks {
     pub broken: usize,
     pub low: usize,
+    pub zero: usize,
+    pub atom: usize,
 }
 
 fn less(k: u16) -> u16
@@ -74,11 +76,15 @@ fn lower_marks(m: Marks, r: usize, k: u16) -> Marks
         return Marks {
             broken: bump(m.broken),
             low: least(r, m.low),
+            zero: least(r, m.zero),
+            atom: m.atom,
         };
     }
     Marks {
         broken: m.broken,
         low: least(r, m.low),
+        zero: m.zero,
+        atom: m.atom,
     }
 }
 
@@ -90,6 +96,8 @@ fn raise_marks(m: Marks, k: u16) -> Marks
         return Marks {
             broken: fall(m.broken),
             low: m.low,
+            zero: m.zero,
+            atom: m.atom,
         };
     }
     m
@@ -187,6 +195,18 @@ fn decide<'a>(
     shift(starts, rules, a * 2 + 1, a * 2, key, m)
 }
 
+// The marks after the atom a becomes undecided.
+fn freed(m: Marks, a: usize) -> Marks
+    ensures { λ x. ⌜ x ≡ freedMarks a m ⌝ }
+{
+    Marks {
+        broken: m.broken,
+        low: m.low,
+        zero: m.zero,
+        atom: least(a, m.atom),
+    }
+}
+
 // An atom that had the value y becomes undecided.
 fn release<'a>(
     starts: &'a [u16],
@@ -202,10 +222,11 @@ fn release<'a>(
     if y == 0 {
         return m;
     }
+    let x = freed(m, a);
     if y == 1 {
-        return shift(starts, rules, a * 2 + 1, a * 2, key, m);
+        return shift(starts, rules, a * 2 + 1, a * 2, key, x);
     }
-    shift(starts, rules, a * 2, a * 2 + 1, key, m)
+    shift(starts, rules, a * 2, a * 2 + 1, key, x)
 }
 
 // An atom that has the value at a, of those lent, becomes undecided.

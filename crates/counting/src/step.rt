@@ -2,6 +2,7 @@
 use crate::counters::Marks;
 use crate::scan;
 use crate::trail;
+use search::branch;
 use search::scan::Found;
 use search::step;
 use search::step::Tested;
@@ -12,7 +13,7 @@ ghost use Rattle.asp.specs.Tables.{Formed};
 ghost use Rattle.search.specs.Places.{places, Good};
 ghost use Rattle.search.specs.Scan.{rules};
 ghost use Rattle.search.specs.Soft.{assumedEntries, ReadableSoft, FormedSoft};
-ghost use Rattle.search.specs.Branch.{Noted};
+ghost use Rattle.search.specs.Branch.{Noted, lowestOf};
 ghost use Rattle.search.specs.Step.{testBy, testOf, stepped, stepOf};
 ghost use Rattle.counting.specs.Counters.{index, counters, marks};
 ghost use Rattle.counting.specs.Counts.{Tracks, Indexed, Told, MarksRight};
@@ -30,7 +31,7 @@ pub struct AfterStep {
     pub marks: Marks,
 }
 
-// What the test says where the scan found this.
+// What the test says where the scan found this; a is the lowest undecided atom.
 fn test_by<'a>(
     found: Found,
     n: usize,
@@ -40,9 +41,11 @@ fn test_by<'a>(
     count: usize,
     value: &'a [u8; 1025],
     len: usize,
+    a: usize,
 ) -> Tested
     requires { ⌜ n ≤ 1024 ⌝ }
     requires { ⌜ Noted found ⌝ }
+    requires { ⌜ (1 ≤ n → a ≡ lowestOf (now value) n) ⌝ }
     requires { ⌜ ReadableSoft (assumedEntries (now wished) (now blamed) count (setOf (now tried))) ⌝ }
     ensures { λ r. ⌜ r ≡ testBy n (assumedEntries (now (wished .entry)) (now (blamed .entry)) count (setOf (now (tried .entry)))) (now (value .entry)) len found ⌝ }
 {
@@ -57,8 +60,9 @@ fn test_by<'a>(
             count,
             value,
             len,
+            a,
         ),
-        Found::Clear => step::test_unbroken(found, n, tried, wished, blamed, count, value, len),
+        Found::Clear => step::test_unbroken(found, n, tried, wished, blamed, count, value, len, a),
     }
 }
 
@@ -86,12 +90,15 @@ fn test<'a>(
 {
     let s = scan::scan(pool, rows, rulecount, key, m, value);
     let found = s.found;
-    let t = test_by(found, n, tried, wished, blamed, count, value, len);
+    let a = branch::lowest(value, n, m.atom);
+    let t = test_by(found, n, tried, wished, blamed, count, value, len, a);
     Examined {
         tested: t,
         marks: Marks {
             broken: m.broken,
             low: s.low,
+            zero: s.zero,
+            atom: a,
         },
     }
 }

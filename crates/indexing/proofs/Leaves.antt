@@ -1,6 +1,6 @@
 -- What the number 2 says on a full trail: each rule that adds an atom of the set has it. Assumes nothing.
 use mathlib.Core.Path.{_≡_, refl, sym, ap, ap₂, _∙_}
-use mathlib.Core.Bool.{Bool, true, false, not, _&&_, _||_}
+use mathlib.Core.Bool.{Bool, Bool·beq, true, false, not, _&&_, _||_}
 use mathlib.Core.List.{List, [], _∷_}
 use mathlib.Core.Logic.{_⊎_, inl, inr, ⊎-elim}
 use Prim.Native.Nat.{ℕ, zero, suc, _+_, _-_, _*_, _≤_, _<_}
@@ -52,6 +52,20 @@ weigh-none x = go (eqb x 1) (eqb x 0)
     go false false = refl
 
 -- ---- what holds in the set is true on the trail
+
+-- what lies between a set and a part that agrees with it, agrees with it
+same-between : (n : ℕ) (M X Y : Set) → Sub X Y → Sub Y M → true ≡ same n M X → true ≡ same n M Y
+unfolding same
+same-between zero M X Y p q e = refl
+same-between (suc k) M X Y p q e = go (M (suc k)) refl (X (suc k)) refl (Y (suc k)) refl (same-between k M X Y p q) e
+  where
+    go : (m : Bool) → M (suc k) ≡ m → (x : Bool) → X (suc k) ≡ x → (y : Bool) → Y (suc k) ≡ y → (true ≡ same k M X → true ≡ same k M Y) → true ≡ (Bool·beq m x && same k M X) → true ≡ (Bool·beq m y && same k M Y)
+    go true a true b true c ih w = ih w
+    go true a true b false c ih w = absurd (rw c at (p .sub (suc k) (rw b tt)))
+    go true a false b y c ih w = absurd (clash (sym w))
+    go false a true b y c ih w = absurd (clash (sym w))
+    go false a false b true c ih w = absurd (rw a at (q .sub (suc k) (rw c tt)))
+    go false a false b false c ih w = ih w
 
 module _ (n : ℕ) (v : List ℕ) (w : Whole n v) (small : (a : ℕ) → getD v a 0 ≤ 2) where
   in-true : (x : ℕ) → T (setOf v x) → getD v x 0 ≡ 1
@@ -326,5 +340,12 @@ module _ (n : ℕ) (pool : List ℤ) (rows : List ℕ) (count : ℕ) (form : For
         go false = refl
 
   -- and the closure is in the set
+  closure-below : Sub (closure n (rulesOf pool rows count) M) M
+  closure-below = closure-least n (rulesOf pool rows count) M M (record { sub = λ b w. adds-at M b 0 count (T (M b)) w (λ s p q z. kept s (omega arith) b z) })
+
   pub closure-in : {xs : List ℕ} {new : Bool} → Closing n M pool rows count xs new → Sub (setOf xs) M
-  closure-in x = record { sub = λ a u. closure-least n (rulesOf pool rows count) M M (record { sub = λ b w. adds-at M b 0 count (T (M b)) w (λ s p q z. kept s (omega arith) b z) }) .sub a (x .inside .sub a u) }
+  closure-in x = record { sub = λ a u. closure-below .sub a (x .inside .sub a u) }
+
+  -- so it is all of the set as soon as a part of it is
+  pub closure-all : {xs : List ℕ} {new : Bool} → Closing n M pool rows count xs new → true ≡ same n M (setOf xs) → true ≡ same n M (closure n (rulesOf pool rows count) M)
+  closure-all {xs} x e = same-between n M (setOf xs) (closure n (rulesOf pool rows count) M) (x .inside) closure-below e

@@ -1,8 +1,9 @@
 -- Branching, which document 01 leaves free (docs/DECISIONS.md says why this one): the complement of the literal that would break a rule, if the scan noted one; else the
 -- wished literal of the first assumed soft literal of an entry whose atom is undecided; else the lowest undecided atom, in if it is one to try in first, else out.
 -- Assumes nothing: these are definitions.
+use mathlib.Core.Path.{_≡_}
 use mathlib.Core.List.{List}
-use Prim.Native.Nat.{ℕ, zero, suc, _+_, _-_, _≤_}
+use Prim.Native.Nat.{ℕ, zero, suc, _+_, _-_, _≤_, _<_}
 use lib.Dec.{eqb}
 use lib.IntN.{ℤ, pos, negℤ, natAbs}
 use lib.ListN.{getD}
@@ -20,6 +21,15 @@ lowestFrom v a (suc k) = pick (eqb (getD v a 0) 0) a (lowestFrom v (a + 1) k)
 
 abbrev pub lowestOf : List ℕ → ℕ → ℕ
 lowestOf v n = lowestFrom v 1 (n - 1)
+
+-- the atoms from 1 on, below a, are decided
+pub record DecidedBelow (v : List ℕ) (a : ℕ) : Type 0 where
+  pub decided : (j : ℕ) → 1 ≤ j → j < a → getD v j 0 ≡ 0 → ⊥
+
+-- a is the lowest undecided atom, or n
+pub record LowestIs (v : List ℕ) (n a : ℕ) : Type 0 where
+  pub is : 1 ≤ n → a ≡ lowestOf v n
+  pub below : DecidedBelow v a
 
 abbrev pub wishedOr : ℤ → Wish → ℤ
 wishedOr l (For w) = w

@@ -5,24 +5,34 @@ use crate::soft::Wish;
 use asp::literal;
 ghost use mathlib.Core.Path.{_≡_};
 ghost use Prim.Native.Nat.{ℕ, _≤_};
-ghost use Rattle.asp.specs.Sets.{setOf};
+ghost use lib.Dec.{eqb};
+ghost use Rattle.asp.specs.Sets.{setOf, pick};
 ghost use Rattle.search.specs.Soft.{ReadableWishes};
-ghost use Rattle.search.specs.Branch.{Noted, lowestOf, freeLiteral, freeBranch, branchOf};
+ghost use Rattle.search.specs.Branch.{Noted, DecidedBelow, LowestIs, lowestOf, freeLiteral, freeBranch, branchOf};
 
-// The lowest undecided atom; n where there is none below it.
-fn lowest(value: &[u8; 1025], n: usize) -> usize
-    requires { ⌜ 1 ≤ n ⌝ }
-    requires { ⌜ n ≤ 1024 ⌝ }
-    ensures { λ r. ⌜ r ≡ lowestOf (now (value .entry)) n ⌝ }
+fn at_least_one(a: usize) -> usize
+    ensures { λ r. ⌜ r ≡ pick (eqb a 0) 1 a ⌝ }
 {
-    let mut a: usize = 1;
+    if a == 0 {
+        return 1;
+    }
+    a
+}
+
+// The lowest undecided atom, where all below `start` are decided; n where there is none below it.
+pub fn lowest(value: &[u8; 1025], n: usize, start: usize) -> usize
+    requires { ⌜ n ≤ 1024 ⌝ }
+    requires { ⌜ DecidedBelow (now value) start ⌝ }
+    ensures { λ r. ⌜ LowestIs (now (value .entry)) n r ⌝ }
+{
+    let mut a = at_least_one(start);
     while a < n {
         if value[a] == 0 {
             return a;
         }
         a += 1;
     }
-    a
+    n
 }
 
 // The literal of atom a to try first: in, if the table says so.
@@ -36,31 +46,24 @@ fn free_literal(tried: &[u8; 1025], a: usize) -> i32
     literal::negative(a)
 }
 
-// The lowest undecided atom's literal.
-fn lowest_free<'a>(tried: &'a [u8; 1025], value: &'a [u8; 1025], n: usize) -> i32
-    requires { ⌜ 1 ≤ n ⌝ }
-    requires { ⌜ n ≤ 1024 ⌝ }
-    ensures { λ r. ⌜ r ≡ freeLiteral (setOf (now (tried .entry))) (lowestOf (now (value .entry)) n) ⌝ }
-{
-    free_literal(tried, lowest(value, n))
-}
-
-// Where no literal would break a rule: the first undecided wished literal; else the lowest undecided atom's.
+// Where no literal would break a rule: the first undecided wished literal; else that of a, the lowest undecided atom.
 fn free_branch<'a>(
     tried: &'a [u8; 1025],
     wished: &'a [i32],
     count: usize,
     n: usize,
     value: &'a [u8; 1025],
+    a: usize,
 ) -> i32
     requires { ⌜ 1 ≤ n ⌝ }
     requires { ⌜ n ≤ 1024 ⌝ }
+    requires { ⌜ a ≡ lowestOf (now value) n ⌝ }
     requires { ⌜ ReadableWishes (now wished) count ⌝ }
     ensures { λ r. ⌜ r ≡ freeBranch (setOf (now (tried .entry))) (now (wished .entry)) count (now (value .entry)) n ⌝ }
 {
     match soft::undecided(wished, count, value) {
         Wish::For(l) => l,
-        Wish::Decided => lowest_free(tried, value, n),
+        Wish::Decided => free_literal(tried, a),
     }
 }
 
@@ -72,16 +75,18 @@ pub fn branch<'a>(
     count: usize,
     n: usize,
     value: &'a [u8; 1025],
+    a: usize,
 ) -> i32
     requires { ⌜ 1 ≤ n ⌝ }
     requires { ⌜ n ≤ 1024 ⌝ }
     requires { ⌜ Noted found ⌝ }
+    requires { ⌜ a ≡ lowestOf (now value) n ⌝ }
     requires { ⌜ ReadableWishes (now wished) count ⌝ }
     ensures { λ r. ⌜ r ≡ branchOf (setOf (now (tried .entry))) (now (wished .entry)) count (now (value .entry)) n found ⌝ }
 {
     match found {
         Found::Breaker(l) => literal::complement(l),
-        Found::Broken(_) => free_branch(tried, wished, count, n, value),
-        Found::Clear => free_branch(tried, wished, count, n, value),
+        Found::Broken(_) => free_branch(tried, wished, count, n, value, a),
+        Found::Clear => free_branch(tried, wished, count, n, value, a),
     }
 }

@@ -7,7 +7,7 @@ ghost use mathlib.Core.Path.{_≡_};
 ghost use Prim.Native.Nat.{ℕ, _≤_};
 ghost use Rattle.asp.specs.Sets.{setOf};
 ghost use Rattle.search.specs.Soft.{assumedEntries, ReadableSoft};
-ghost use Rattle.search.specs.Branch.{Noted};
+ghost use Rattle.search.specs.Branch.{Noted, lowestOf};
 ghost use Rattle.search.specs.Step.{unbroken};
 
 // What the test says of a trail: a rule is broken; it holds all n atoms, for the caller to judge; an assumed soft literal is violated; or it is open, with the literal to add.
@@ -18,7 +18,7 @@ pub enum Tested {
     Open(i32),
 }
 
-// The test where no rule is broken.
+// The test where no rule is broken; a is the lowest undecided atom.
 pub fn test_unbroken<'a>(
     found: Found,
     n: usize,
@@ -28,9 +28,11 @@ pub fn test_unbroken<'a>(
     count: usize,
     value: &'a [u8; 1025],
     len: usize,
+    a: usize,
 ) -> Tested
     requires { ⌜ n ≤ 1024 ⌝ }
     requires { ⌜ Noted found ⌝ }
+    requires { ⌜ (1 ≤ n → a ≡ lowestOf (now value) n) ⌝ }
     requires { ⌜ ReadableSoft (assumedEntries (now wished) (now blamed) count (setOf (now tried))) ⌝ }
     ensures { λ r. ⌜ r ≡ unbroken n (assumedEntries (now (wished .entry)) (now (blamed .entry)) count (setOf (now (tried .entry)))) (now (value .entry)) len found ⌝ }
 {
@@ -46,6 +48,7 @@ pub fn test_unbroken<'a>(
             count,
             n,
             value,
+            a,
         )),
     }
 }

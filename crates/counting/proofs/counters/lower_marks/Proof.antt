@@ -16,12 +16,15 @@ least-requires : tie.Need-least-requires
 least-requires c κs = search needs
 
 -- src/counters.rt:67:9
+least-requires-2 : tie.Need-least-requires-2
+least-requires-2 c κs = search needs
+
 returns-2 : tie.Need-returns-2
 returns-2 c = search (marks-broken, needs)
 
 -- src/counters.rt:74:14
-least-requires-2 : tie.Need-least-requires-2
-least-requires-2 c κs = search needs
+least-requires-3 : tie.Need-least-requires-3
+least-requires-3 c κs = search needs
 
 -- src/counters.rt:60:1
 returns-3 : tie.Need-returns-3
@@ -29,4 +32,4 @@ returns-3 c = search (marks-near, needs)
 
 pub lower-marks-spec : {M : Type 1} → statement M
 lower-marks-spec =
-    tie.close (tie.spec returns bump-requires least-requires returns-2 least-requires-2 returns-3)
+    tie.close (tie.spec returns bump-requires least-requires least-requires-2 returns-2 least-requires-3 returns-3)

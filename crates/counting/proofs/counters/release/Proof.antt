@@ -7,6 +7,9 @@ use Rattle.counting.proofs.counters.release.Tie as tie
 returns : tie.Need-returns
 returns c = search (released-none, needs)
 
+freed-requires : tie.Need-freed-requires
+freed-requires c κs = search needs
+
 -- src/counters.rt:172:37
 mul-shift : tie.Need-mul-shift
 mul-shift c = search needs
@@ -52,6 +55,7 @@ release-spec =
     tie.close
     (tie.spec
     returns
+    freed-requires
     mul-shift
     add-shift
     mul-shift-2

@@ -8,16 +8,19 @@ use Rattle.search.proofs.branch.lowest.Statement.{statement}
 use Rattle.search.proofs.branch.lowest.Tie as tie
 
 abbrev Inv-loop : tie.InvT-loop
-Inv-loop value n a₀ a = Low value n a
+Inv-loop value n start a₀ a = Low value n a
 
 abbrev μ-loop : tie.MeasureT-loop
-μ-loop value n a₀ a = n - a
+μ-loop value n start a₀ a = n - a
+
+at-least-one-requires : tie.Need-at-least-one-requires Inv-loop μ-loop
+at-least-one-requires c κs = search needs
 
 loop-holds : tie.Need-loop-holds Inv-loop μ-loop
 loop-holds c = search (low-start, needs)
 
 element-copy-out-if1 : tie.Need-element-copy-out-if1 Inv-loop μ-loop
-element-copy-out-if1 c = omega (arith, c .before .before .pre .1)
+element-copy-out-if1 c = omega (arith, c .before .before .before .pre .0)
 
 returns : tie.Need-returns Inv-loop μ-loop
 returns c = search (low-found, needs)
@@ -40,6 +43,7 @@ lowest-spec =
     (tie.spec
     Inv-loop
     μ-loop
+    at-least-one-requires
     loop-holds
     element-copy-out-if1
     returns

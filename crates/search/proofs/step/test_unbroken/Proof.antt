@@ -18,7 +18,7 @@ enum-told : tie.Need-enum-told
 enum-told c = search needs
 
 branch-requires : tie.Need-branch-requires
-branch-requires c κs = search needs
+branch-requires c κs = (search needs, (search needs, (search needs, (c .before .before .before .before .before .pre .1 .1 .0 (search needs), search needs))))
 
 returns-2 : tie.Need-returns-2
 returns-2 c = search (test-violated, needs)
