@@ -131,6 +131,7 @@ count-none U l k e h = rw (drop-of-length-le (take e l) {i = k} (rw length-take 
 pub record Counting (t : Judging) (M : Set) (j end : ℕ) (before counts : List ℕ) (k n : ℕ) : Type 0 where
   pub known : Known t M counts
   pub stays : Stays before counts
+  pub long : length counts ≡ length before
   pub ends : end ≡ getD (t .ends) j 0
   pub from : getD (t .ends) (j - 1) 0 ≤ k
   pub few : n ≤ k
@@ -142,6 +143,7 @@ pub count-start : {t : Judging} {M : Set} → FormedJudging t → {counts : List
 count-start {t} {M} f {counts} o {j} l h {e} ee {k} ek = record {
   known = o;
   stays = λ i w. w;
+  long = refl;
   ends = ee;
   from = omega arith;
   few = omega arith;
@@ -167,11 +169,11 @@ counted-set counts j n x h w = go (eqb x j) refl
     go false e = λ z. w (sym (getD-set-other counts j x (n + 1) 0 (eqb-false x j e)) ∙ z)
 
 -- a kept count
-kept-after : (t : Judging) (M : Set) (counts : List ℕ) (j n : ℕ) → Known t M counts → j < 4097 → n ≡ countIn t M j → Known t M (set counts j (n + 1))
+kept-after : (t : Judging) (M : Set) (counts : List ℕ) (j n : ℕ) → Known t M counts → j < length counts → n ≡ countIn t M j → Known t M (set counts j (n + 1))
 kept-after t M counts j n o h q = record { long = rw length-set (o .long); kept = λ i z. go i z (eqb i j) refl }
   where
     go : (i : ℕ) → (getD (set counts j (n + 1)) i 0 ≡ 0 → ⊥) → (b : Bool) → eqb i j ≡ b → getD (set counts j (n + 1)) i 0 ≡ countIn t M i + 1
-    go i z true r = rw (eqb-true i j r, getD-set-same counts j (n + 1) 0 (omega (arith, o .long)), q)
+    go i z true r = rw (eqb-true i j r, getD-set-same counts j (n + 1) 0 h, q)
     go i z false r =
         let x : getD (set counts j (n + 1)) i 0 ≡ getD counts i 0 = getD-set-other counts j i (n + 1) 0 (eqb-false i j r) in
         x ∙ o .kept i (λ w. z (x ∙ w))
@@ -192,11 +194,12 @@ module _ {t : Judging} {M : Set} {j e : ℕ} {before counts : List ℕ} {k n : �
       let x : getD (t .cores) (getD (t .members) k 0) 0 ≤ j - 1 = f .falls (j - 1) k (c .from) q in
       rw em (omega arith)
 
-  pub count-yes : Counting t M j e before counts k n → FormedJudging t → k < e → {m : ℕ} → m ≡ getD (t .members) k 0 → {b : Bool} {after : List ℕ} → Answers t M counts b (violatedAt t M m) after → b ≡ true
+  pub count-yes : Counting t M j e before counts k n → FormedJudging t → k < e → {m : ℕ} → m ≡ getD (t .members) k 0 → {b : Bool} {after : List ℕ} → Answers t M counts b (violatedAt t M m) after → length after ≡ length counts → b ≡ true
       → {n₁ : ℕ} → n₁ ≡ n + 1 → Counting t M j e before after (k + 1) n₁
-  count-yes c f h {m} em {b} {after} a q {n₁} en = record {
+  count-yes c f h {m} em {b} {after} a u q {n₁} en = record {
     known = a .known;
     stays = λ i w. a .stays i (c .stays i w);
+    long = u ∙ c .long;
     ends = c .ends;
     from = omega (arith, c .from);
     few = omega (arith, c .few);
@@ -206,11 +209,12 @@ module _ {t : Judging} {M : Set} {j e : ℕ} {before counts : List ℕ} {k n : �
         omega (arith, c .rest, ap ind v, count-cons (violatedAt t M) (t .members) k e h (omega (arith, f .end-in j, c .ends)));
   }
 
-  pub count-no : Counting t M j e before counts k n → FormedJudging t → k < e → {m : ℕ} → m ≡ getD (t .members) k 0 → {b : Bool} {after : List ℕ} → Answers t M counts b (violatedAt t M m) after → b ≡ false
+  pub count-no : Counting t M j e before counts k n → FormedJudging t → k < e → {m : ℕ} → m ≡ getD (t .members) k 0 → {b : Bool} {after : List ℕ} → Answers t M counts b (violatedAt t M m) after → length after ≡ length counts → b ≡ false
       → {n₁ : ℕ} → n₁ ≡ n → Counting t M j e before after (k + 1) n₁
-  count-no c f h {m} em {b} {after} a q {n₁} en = record {
+  count-no c f h {m} em {b} {after} a u q {n₁} en = record {
     known = a .known;
     stays = λ i w. a .stays i (c .stays i w);
+    long = u ∙ c .long;
     ends = c .ends;
     from = omega (arith, c .from);
     few = omega (arith, c .few);
@@ -224,13 +228,13 @@ module _ {t : Judging} {M : Set} {j e : ℕ} {before counts : List ℕ} {k n : �
   pub count-few : Counting t M j e before counts k n → FormedJudging t → n ≤ 4096
   count-few c f = omega (arith, c .few, c .inside, f .few)
 
-  pub count-end : Counting t M j e before counts k n → FormedJudging t → j < length (t .ends) → e ≤ k → {after : List ℕ} → after ≡ set counts j (n + 1) → CountAnswers t M before n j after
-  count-end c f h l {after} ea =
+  pub count-end : Counting t M j e before counts k n → j < length (t .ends) → e ≤ k → {after : List ℕ} → after ≡ set counts j (n + 1) → CountAnswers t M before n j after
+  count-end c h l {after} ea =
       let q : n ≡ countIn t M j = omega (arith, c .rest, count-none (violatedAt t M) (t .members) k e l) in
-      let i : j < length counts = omega (arith, f .ends-few, c .known .long) in
+      let i : j < length counts = omega (arith, c .known .long) in
       record {
         is = q;
-        known = rw ea (kept-after t M counts j n (c .known) (omega (arith, f .ends-few)) q);
+        known = rw ea (kept-after t M counts j n (c .known) i q);
         stays = λ x w. rw ea (counted-set counts j n x i (c .stays x w));
         counted = rw ea (counted-now counts j n i);
       }
@@ -271,20 +275,22 @@ first-next U p ps e = rw e
 pub record Passing (t : Judging) (M : Set) (ps before counts : List ℕ) (i : ℕ) : Type 0 where
   pub known : Known t M counts
   pub stays : Stays before counts
+  pub long : length counts ≡ length before
   pub below : i ≤ length ps
   pub rest : firstViolated (violatedAt t M) (drop i ps) ≡ firstViolated (violatedAt t M) ps
 
 pub pass-start : {t : Judging} {M : Set} (ps : List ℕ) {counts : List ℕ} → Known t M counts → Passing t M ps counts counts 0
-pass-start ps k = record { known = k; stays = λ i w. w; below = zero-le; rest = refl }
+pass-start ps k = record { known = k; stays = λ i w. w; long = refl; below = zero-le; rest = refl }
 
 cut-at : (ps : List ℕ) (i : ℕ) → i < length ps → drop i ps ≡ getD ps i 0 ∷ drop (i + 1) ps
 cut-at ps i h = rw (add-one, drop-cons ps i 0)
 
 module _ {t : Judging} {M : Set} {ps before counts : List ℕ} {i : ℕ} where
-  pub pass-next : Passing t M ps before counts i → i < length ps → {p : ℕ} → p ≡ getD ps i 0 → {b : Bool} {after : List ℕ} → Answers t M counts b (violatedAt t M p) after → b ≡ false → Passing t M ps before after (i + 1)
-  pass-next c h {p} ep {b} {after} a q = record {
+  pub pass-next : Passing t M ps before counts i → i < length ps → {p : ℕ} → p ≡ getD ps i 0 → {b : Bool} {after : List ℕ} → Answers t M counts b (violatedAt t M p) after → length after ≡ length counts → b ≡ false → Passing t M ps before after (i + 1)
+  pass-next c h {p} ep {b} {after} a u q = record {
     known = a .known;
     stays = λ x w. a .stays x (c .stays x w);
+    long = u ∙ c .long;
     below = omega arith;
     rest =
         sym (first-next (violatedAt t M) (getD ps i 0) (drop (i + 1) ps) (sym (ap (violatedAt t M) ep) ∙ sym (a .is) ∙ q))
@@ -345,12 +351,12 @@ module _ {t : Judging} {M : Set} (ps qs : List ℕ) {r : Judged} {before counts 
   found-second a e b = b .is ∙ sym (first-append (violatedAt t M) ps qs (sym (a .is) ∙ e))
 
 -- no count is kept yet
-none-kept : (j : ℕ) → _≡_ {A = ℕ} (getD (replicate 4097 0) j 0) 0
-none-kept j = go (below-or j 4097)
+none-kept : (n j : ℕ) → _≡_ {A = ℕ} (getD (replicate n 0) j 0) 0
+none-kept n j = go (below-or j n)
   where
-    go : (j < 4097) ⊎ (4097 ≤ j) → _≡_ {A = ℕ} (getD (replicate 4097 0) j 0) 0
-    go (inl h) = getD-replicate 4097 j 0 0 h
-    go (inr h) = List·getD-eq-default (replicate 4097 0) 0 {n = j} (rw length-replicate h)
+    go : (j < n) ⊎ (n ≤ j) → _≡_ {A = ℕ} (getD (replicate n 0) j 0) 0
+    go (inl h) = getD-replicate n j 0 0 h
+    go (inr h) = List·getD-eq-default (replicate n 0) 0 {n = j} (rw length-replicate h)
 
-pub known-none : (t : Judging) (M : Set) → Known t M (replicate 4097 0)
-known-none t M = record { long = length-replicate {A = ℕ} 4097 0; kept = λ j z. absurd (z (none-kept j)) }
+pub known-none : {t : Judging} {n : ℕ} → length (t .ends) ≤ n → (M : Set) → Known t M (replicate n 0)
+known-none {t} {n} h M = record { long = rw length-replicate h; kept = λ j z. absurd (z (none-kept n j)) }

@@ -60,9 +60,9 @@ pub record FormedJudging (t : Judging) : Type 0 where
   pub member-in : (k : ℕ) → k < length (t .members) → getD (t .members) k 0 < length (t .literals)
   pub falls : (j k : ℕ) → getD (t .ends) j 0 ≤ k → k < getD (t .ends) (j + 1) 0 → getD (t .cores) (getD (t .members) k 0) 0 ≤ j
 
--- the counts that are kept for the set M: 0 for a core that is not counted yet, else one more than its count
+-- the counts that are kept for the set M, with a place for each core: 0 for a core that is not counted yet, else one more than its count
 pub record Known (t : Judging) (M : Set) (counts : List ℕ) : Type 0 where
-  pub long : length counts ≡ 4097
+  pub long : length (t .ends) ≤ length counts
   pub kept : (j : ℕ) → (getD counts j 0 ≡ 0 → ⊥) → getD counts j 0 ≡ countIn t M j + 1
 
 -- no core is counted twice: what is counted before is counted after

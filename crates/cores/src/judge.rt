@@ -124,7 +124,44 @@ pub fn first_violated<'a>(
     Judged::Met
 }
 
-// The first violated place of two lists, one after the other. Each core is counted once at most.
+// The first violated place of two lists, one after the other, by the counts that are kept.
+fn judge_with<'a>(
+    places: &'a [u16],
+    more: &'a [u16],
+    literals: &'a [i32],
+    cores: &'a [u16],
+    indices: &'a [u16],
+    ends: &'a [u16],
+    members: &'a [u16],
+    model: &'a [u8],
+    counts: &mut [u16],
+) -> Judged
+    requires { ⌜ FormedJudging (judging (now literals) (now cores) (now indices) (now ends) (now members)) ⌝ }
+    requires { ⌜ All (λ m. m < length (now literals)) (now places) ⌝ }
+    requires { ⌜ All (λ m. m < length (now literals)) (now more) ⌝ }
+    requires { ⌜ 1024 < length (now model) ⌝ }
+    requires { ⌜ Known (judging (now literals) (now cores) (now indices) (now ends) (now members)) (setOf (now model)) (now counts) ⌝ }
+    ensures { λ r. ⌜ r ≡ firstViolated (violatedAt (judging (now (literals .entry)) (now (cores .entry)) (now (indices .entry)) (now (ends .entry)) (now (members .entry))) (setOf (now (model .entry)))) (now (places .entry) ++ now (more .entry)) ⌝ }
+{
+    let first = first_violated(
+        places,
+        literals,
+        cores,
+        indices,
+        ends,
+        members,
+        model,
+        counts,
+    );
+    match first {
+        Judged::Violated(p) => Judged::Violated(p),
+        Judged::Met => {
+            first_violated(more, literals, cores, indices, ends, members, model, counts)
+        }
+    }
+}
+
+// The same with no count kept yet. Each core is counted once at most.
 pub fn judge_both<'a>(
     places: &'a [u16],
     more: &'a [u16],
@@ -141,9 +178,25 @@ pub fn judge_both<'a>(
     requires { ⌜ 1024 < length (now model) ⌝ }
     ensures { λ r. ⌜ r ≡ firstViolated (violatedAt (judging (now (literals .entry)) (now (cores .entry)) (now (indices .entry)) (now (ends .entry)) (now (members .entry))) (setOf (now (model .entry)))) (now (places .entry) ++ now (more .entry)) ⌝ }
 {
+    // This is done at each stable leaf: where there are few cores, clearing all 8 KB costs more than counting them.
+    if ends.len() <= 64 {
+        let mut counts = [0u16; 64];
+        return judge_with(
+            places,
+            more,
+            literals,
+            cores,
+            indices,
+            ends,
+            members,
+            model,
+            &mut counts,
+        );
+    }
     let mut counts = [0u16; 4097];
-    let first = first_violated(
+    judge_with(
         places,
+        more,
         literals,
         cores,
         indices,
@@ -151,20 +204,5 @@ pub fn judge_both<'a>(
         members,
         model,
         &mut counts,
-    );
-    match first {
-        Judged::Violated(p) => Judged::Violated(p),
-        Judged::Met => {
-            first_violated(
-                more,
-                literals,
-                cores,
-                indices,
-                ends,
-                members,
-                model,
-                &mut counts,
-            )
-        }
-    }
+    )
 }

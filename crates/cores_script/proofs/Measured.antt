@@ -32,13 +32,15 @@ after f p ws = wsum (λ q. f (p + q)) (drop p ws)
 
 pub record Summing (t : Judging) (M : Set) (ws counts : List ℕ) (total p : ℕ) : Type 0 where
   pub known : Known t M counts
+  pub long : length counts ≡ 4097
   pub below : p ≤ length ws
   pub bound : total ≤ p * 4294967296
   pub rest : total + after (λ q. ind (violatedAt t M q)) p ws ≡ wsum (λ q. ind (violatedAt t M q)) ws
 
-pub sum-start : {t : Judging} {M : Set} {counts : List ℕ} → Known t M counts → (ws : List ℕ) → Summing t M ws counts 0 0
-sum-start {t} {M} k ws = record {
+pub sum-start : {t : Judging} {M : Set} {counts : List ℕ} → Known t M counts → length counts ≡ 4097 → (ws : List ℕ) → Summing t M ws counts 0 0
+sum-start {t} {M} k l ws = record {
   known = k;
+  long = l;
   below = zero-le;
   bound = zero-le;
   rest = zero-add _ ∙ wsum-ext _ _ ws (λ q h. ap (λ (x : ℕ). ind (violatedAt t M x)) (zero-add q));
@@ -61,12 +63,13 @@ module _ {t : Judging} {M : Set} {ws counts : List ℕ} {total p : ℕ} where
   pub sum-fits : Summing t M ws counts total p → length ws ≤ 4096 → p < length ws → total ≤ 17592186044416
   sum-fits s h l = omega (arith, s .bound)
 
-  pub sum-next : Summing t M ws counts total p → p < length ws → {b : Bool} {c : List ℕ} → Answers t M counts b (violatedAt t M p) c
+  pub sum-next : Summing t M ws counts total p → p < length ws → {b : Bool} {c : List ℕ} → Answers t M counts b (violatedAt t M p) c → length c ≡ length counts
       → {w : ℕ} → w ≡ getD ws p 0 → w < 4294967296 → {n : ℕ} → n ≡ total + w * ind b → Summing t M ws c n (p + 1)
-  sum-next s h {b} {c} a {w} ew small {n} en =
+  sum-next s h {b} {c} a u {w} ew small {n} en =
       let e : w * ind b ≡ getD ws p 0 * ind (violatedAt t M p) = ap₂ (λ (x : ℕ) (y : Bool). x * ind y) ew (a .is) in
       record {
         known = a .known;
+        long = u ∙ s .long;
         below = omega arith;
         bound = omega (arith, s .bound, small-weight (λ q. ind (violatedAt t M q)) ws p 4294967296 (ind-small (violatedAt t M p)) (omega arith));
         rest = omega (arith, s .rest, after-next (λ q. ind (violatedAt t M q)) p ws h);

@@ -192,8 +192,8 @@ count-loop-again : (t : ℕ) → count-lts.Need-loop-again (
 ) (count-at t) count.Post count-Inv-loop count-μ-loop
 count-loop-again t c =
     ⊎-elim
-    (λ w. count-yes (c .before .before .before .before .before .before .before .loop .inv) (c .before .before .before .before .before .before .before .before .before .before .before .before .before .before .before .before .before .before .before .pre .1 .0) (c .before .before .before .before .before .before .loop-test .taken) (c .before .before .before .before .before .at4 .ensures) (c .before .before .before .violated .ensures) (w .0 .taken) (w .1))
-    (λ w. count-no (c .before .before .before .before .before .before .before .loop .inv) (c .before .before .before .before .before .before .before .before .before .before .before .before .before .before .before .before .before .before .before .pre .1 .0) (c .before .before .before .before .before .before .loop-test .taken) (c .before .before .before .before .before .at4 .ensures) (c .before .before .before .violated .ensures) (w .0 .left) (w .1))
+    (λ w. count-yes (c .before .before .before .before .before .before .before .loop .inv) (c .before .before .before .before .before .before .before .before .before .before .before .before .before .before .before .before .before .before .before .pre .1 .0) (c .before .before .before .before .before .before .loop-test .taken) (c .before .before .before .before .before .at4 .ensures) (c .before .before .before .violated .ensures) (search needs) (w .0 .taken) (w .1))
+    (λ w. count-no (c .before .before .before .before .before .before .before .loop .inv) (c .before .before .before .before .before .before .before .before .before .before .before .before .before .before .before .before .before .before .before .pre .1 .0) (c .before .before .before .before .before .before .loop-test .taken) (c .before .before .before .before .before .at4 .ensures) (c .before .before .before .violated .ensures) (search needs) (w .0 .left) (w .1))
     (c .if2 .came)
 
 count-keep-requires : (t : ℕ) → count-lts.Need-keep-requires (

@@ -41,7 +41,7 @@ loop-again : tie.Need-loop-again Inv-loop μ-loop
 loop-again c =
     let x = c .before .weight-at .ensures in
     let w : c .before .weight-at .result < 4294967296 = search needs in
-    sum-next (c .before .before .before .before .before .before .loop .inv) (c .before .before .before .before .before .loop-test .taken) (c .before .before .before .violated .ensures) x w (c .plus .ensures)
+    sum-next (c .before .before .before .before .before .before .loop .inv) (c .before .before .before .before .before .loop-test .taken) (c .before .before .before .violated .ensures) (search needs) x w (c .plus .ensures)
 
 returns : tie.Need-returns Inv-loop μ-loop
 returns c = sum-end (c .before .loop .inv) (c .loop-test .left)
