@@ -9,62 +9,40 @@ use command::Command;
 use input::Line;
 use planner::service::Service;
 
-// The service after a command, and whether there may be more of them.
-pub struct Turned {
-    pub service: Service,
-    pub more: bool,
-}
-
 fn main() {
     let mut s = planner::service::fresh();
     let mut left: u64 = 18446744073709551615;
     while 0 < left {
-        let t = turn(s);
-        s = t.service;
-        if !t.more {
+        let c = next_command();
+        s = obey(s, c);
+        if !command::goes_on(c) {
             return;
         }
         left -= 1;
     }
 }
 
-// One line.
-fn turn(s: Service) -> Turned
-    requires { ⌜ Sound s ⌝ }
-    ensures { λ r. ⌜ Sound (r .service) ⌝ }
-{
+// The next line's command; at the end of the input, to quit.
+fn next_command() -> Command {
     let mut bytes = [0u8; 128];
     let line = input::read_line(&mut bytes);
     match line {
-        Line::End => Turned {
-            service: s,
-            more: false,
-        },
+        Line::End => Command::Quit,
         Line::Long => {
             answer::long_line();
-            Turned {
-                service: s,
-                more: true,
-            }
+            Command::Nothing
         }
-        Line::Read { length } => {
-            let c = command::parse(planner::fill::front(&bytes, length));
-            obey(s, c)
-        }
+        Line::Read { length } => command::parse(planner::fill::front(&bytes, length)),
     }
 }
 
-fn obey(s: Service, c: Command) -> Turned
+fn obey(s: Service, c: Command) -> Service
     requires { ⌜ Sound s ⌝ }
-    ensures { λ r. ⌜ Sound (r .service) ⌝ }
+    ensures { λ r. ⌜ Sound r ⌝ }
 {
-    let more = command::goes_on(c);
     let t = changed(s, c);
     answer::of_command(t, c);
-    Turned {
-        service: t,
-        more: more,
-    }
+    t
 }
 
 // The service after a command that changes it, with its answer printed; after another it is as before.

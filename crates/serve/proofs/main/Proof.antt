@@ -4,10 +4,6 @@ use Rattle.planner.specs.Sound.{Sound}
 use Rattle.planner.proofs.Kept.{sound-fresh}
 use Rattle.serve.proofs.main.Statement.{statement}
 use Rattle.serve.proofs.main.Tie as tie
-use Rattle.serve.proofs.main.Reads as reads
-use Rattle.serve.proofs.main.Lts as lts
-use Rattle.planner.proofs.service.fresh.Reads as fresh-reads
-use Rattle.serve.proofs.turn.Reads as turn-reads
 
 abbrev Inv-loop : tie.InvT-loop
 Inv-loop s₀ left₀ s left = Sound s
@@ -21,8 +17,14 @@ fresh-requires c κs = search needs
 loop-holds : tie.Need-loop-holds Inv-loop μ-loop
 loop-holds c = sound-fresh (c .fresh .ensures)
 
-turn-requires : tie.Need-turn-requires Inv-loop μ-loop
-turn-requires c κs = c .before .loop .inv
+next-command-requires : tie.Need-next-command-requires Inv-loop μ-loop
+next-command-requires c κs = search needs
+
+obey-requires : tie.Need-obey-requires Inv-loop μ-loop
+obey-requires c κs = c .before .before .loop .inv
+
+goes-on-requires : tie.Need-goes-on-requires Inv-loop μ-loop
+goes-on-requires c κs = search needs
 
 returns : tie.Need-returns Inv-loop μ-loop
 returns c = search needs
@@ -34,7 +36,7 @@ loop-less : tie.Need-loop-less Inv-loop μ-loop
 loop-less c = omega arith
 
 loop-again : tie.Need-loop-again Inv-loop μ-loop
-loop-again c = c .before .before .before .turn .ensures
+loop-again c = c .before .before .obey .ensures
 
 returns-2 : tie.Need-returns-2 Inv-loop μ-loop
 returns-2 c = search needs
@@ -47,7 +49,9 @@ main-spec =
     μ-loop
     fresh-requires
     loop-holds
-    turn-requires
+    next-command-requires
+    obey-requires
+    goes-on-requires
     returns
     sub-left
     loop-less
