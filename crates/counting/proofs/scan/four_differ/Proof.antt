@@ -1,28 +1,24 @@
-use Rattle.counting.proofs.ScanLaws.{four-none, none-false}
+use Rattle.counting.proofs.ScanLaws.{half-none}
 use borrow.Author.Needs.{needs}
 use Rattle.counting.proofs.scan.four_differ.Statement.{statement}
 use Rattle.counting.proofs.scan.four_differ.Tie as tie
 
--- src/scan.rt:88:8
+-- src/scan.rt:87:9
 two-differ-requires : tie.Need-two-differ-requires
 two-differ-requires c κs = search needs
 
--- src/scan.rt:89:32
+-- src/scan.rt:88:34
 add-two-differ : tie.Need-add-two-differ
 add-two-differ c = search needs
 
--- src/scan.rt:89:9
+-- src/scan.rt:88:9
 two-differ-requires-2 : tie.Need-two-differ-requires-2
 two-differ-requires-2 c κs = search needs
 
--- src/scan.rt:89:9
+-- src/scan.rt:83:1
 returns : tie.Need-returns
-returns c = λ q. four-none _ _ _ (c .before .before .two-differ .ensures) (search needs) (c .two-differ2 .ensures) q
-
--- src/scan.rt:84:1
-returns-2 : tie.Need-returns-2
-returns-2 c = λ q. none-false _ _ _ _ q
+returns c = half-none _ _ _ 2 (c .before .two-differ .ensures) (c .two-differ2 .ensures)
 
 pub four-differ-spec : {M : Type 1} → statement M
 four-differ-spec =
-    tie.close (tie.spec two-differ-requires add-two-differ two-differ-requires-2 returns returns-2)
+    tie.close (tie.spec two-differ-requires add-two-differ two-differ-requires-2 returns)
