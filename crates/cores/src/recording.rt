@@ -83,7 +83,7 @@ fn end_of(from: usize, n: usize) -> u16
 }
 
 // A core of the places in `core` is recorded at stratum s.
-fn with_core(t: LevelTables, core: &[u16], s: u32) -> LevelTables
+pub fn with_core(t: LevelTables, core: &[u16], s: u32) -> LevelTables
     requires { ⌜ Room t (length (now core)) ⌝ }
     requires { ⌜ All (λ m. m < 4096) (now core) ⌝ }
     requires { ⌜ t .lower + s ≤ 1000000000 ⌝ }

@@ -224,12 +224,7 @@ module _ {S : Source} {budget : ℕ} {start s : Search} {made : ℕ} (i : Runnin
             let y : k - m ≡ budget - (made + m) = omega arith in
             ap (λ (n : ℕ). made + (m + madeBy S n (advancesOf S m s))) y ∙ ap (λ (x : Search). made + (m + madeBy S (budget - (made + m)) x)) (sym there) ∙ omega arith
 
--- one step of a query is one advance
-pub one-advance : (S : Source) (s : Search) {b : Bool} → b ≡ isRunning (s .phase) → b ≡ true → s .advances ≤ 18446744073709551615 → {u : Search} {m : ℕ} → afterRun u m ≡ queryRun S 1 s → u ≡ advanceOf S s
+-- a run of one is one advance
+pub one-advance : (S : Source) (s : Search) {u : Search} {m : ℕ} → afterRun u m ≡ runOf S 1 s → u ≡ advanceOf S s
 unfolding advancesOf
-one-advance S s f g c e =
-    let m : queryRun S 1 s .made ≡ 1 = omega (arith, made-some S (workQuery (s .work)) 1 (s .trail) (s .blame) (omega arith), made-le S (workQuery (s .work)) 1 (s .trail) (s .blame)) in
-    ap (λ (x : AfterRun). x .search) e ∙ steps-advance S 1 s (sym f ∙ g) c ∙ ap (λ (n : ℕ). advancesOf S n s) m
-
-pub no-advance : (S : Source) (s : Search) {b : Bool} → b ≡ isRunning (s .phase) → b ≡ false → s ≡ advanceOf S s
-no-advance S s f g = sym (rest-advance S s (sym f ∙ g))
+one-advance S s e = ap (λ (x : AfterRun). x .search) e

@@ -1,7 +1,7 @@
 -- What holds in the loops that end a query, and what each function of module `finish` gives. Assumes nothing.
 use mathlib.Core.Path.{_≡_, refl, sym, ap, ap₂, _∙_, subst}
 use mathlib.Core.Logic.{_≢_}
-use mathlib.Core.Bool.{Bool, true, false}
+use mathlib.Core.Bool.{Bool, true, false, _&&_}
 use mathlib.Core.List.{List}
 use Prim.Native.Nat.{ℕ, suc, _+_, _-_, _≤_, _<_}
 use native.Mathlib.Omega.{arith}
@@ -10,7 +10,7 @@ use mir.Val.{SFits, toZ, ofZ}
 use mir.Facts.{toZ-ofZ}
 use lib.Dec.{eqb, ltb}
 use lib.IntN.{ℤ, pos, natAbs}
-use lib.ListN.{getD, take}
+use lib.ListN.{length, getD, take}
 use borrow.Author.Tests.{eq-eqb, ne-eqb, lt-ltb, le-ltb}
 use Rattle.asp.specs.Sets.{pick}
 use Rattle.asp.specs.Program.{Entry, LiteralIn}
@@ -18,9 +18,9 @@ use Rattle.asp.specs.Tables.{entryAt}
 use Rattle.asp.proofs.Spans.{length-span, all-map}
 use Rattle.asp.specs.Cost.{level, cheaper}
 use Rattle.cores.specs.declared.level.LevelTables.{LevelTables}
-use Rattle.cores.specs.Level.{under, greatest, FormedEntries}
+use Rattle.cores.specs.Level.{under, greatest, coreFits, FormedEntries}
 use Rattle.cores.specs.Level as lev
-use Rattle.cores.specs.Tables.{levelOf, openedTables, FormedTables, Tried, tried, triedTables}
+use Rattle.cores.specs.Tables.{levelOf, heldIn, openedTables, recordedTables, FormedTables, Counted, tried}
 use Rattle.cores.proofs.Kept.{level-formed, opened-means, opened-sound, first-stratum}
 use Rattle.optimizer.specs.Source.{Levels, many, entriesIn, levelAt, FormedLevels}
 use Rattle.optimizer.specs.declared.state.Work.{Work}
@@ -29,7 +29,8 @@ use Rattle.optimizer.specs.declared.state.Phase.the-variants.{First, Lev
 use Rattle.optimizer.specs.declared.state.Turn.{Turn}
 use Rattle.optimizer.specs.declared.state.Turn.the-variants.{Going, Without, Model}
 use Rattle.optimizer.specs.State.{work}
-use Rattle.optimizer.specs.Finish.{nextFrom, Placed, placed, begunAt, openAt, openFrom, settleOf, costsOf, withBest, betterOf, fallen, withTables, triedWork, finishFirst, finishLevel, finishOf}
+use Rattle.optimizer.specs.declared.finish.Ending.{Ending}
+use Rattle.optimizer.specs.Finish.{nextFrom, Placed, placed, begunAt, openAt, openFrom, settleOf, costsOf, withBest, betterOf, fallen, fallenTo, withTables, triedWork, finishFirst, finishOf, asksCore, recordsOf, recordedWork, finishedLevel, finishedOf, ending, standingOf, closed, Ends}
 
 -- ---- the next level that is not settled at 0
 
@@ -75,11 +76,6 @@ module _ (L : Levels) (w : Work) (v : List ℕ) {x : List ℕ} {b : Bool} (e : x
   pub better-no : b ≡ false → w ≡ betterOf L w v
   better-no t = sym (found ∙ ap (λ (z : Bool). pick z (withBest L w v) w) t)
 
--- ---- the stratum falls
-
-pub fallen-is : (w : Work) {s : ℕ} → s ≡ under (w .stratum) (levelOf (w .tables) .rests) → work (w .level) (w .tables) s (w .lowers) (w .uppers) (w .best) ≡ fallen w
-fallen-is w e = ap (λ (s : ℕ). work (w .level) (w .tables) s (w .lowers) (w .uppers) (w .best)) e
-
 -- ---- a level is opened. Its priority, which goes from one call to the next, stands as `toZ w32 (ofZ w32 p)`.
 
 pub formed-in : (L : Levels) → FormedLevels L → FormedEntries (entriesIn L)
@@ -104,65 +100,69 @@ module _ (L : Levels) (j : ℕ) (f : FormedLevels L) {p : ℤ} (k : SFits w32 p)
       ap (λ (u : LevelTables). under 1000001 (levelOf u .rests)) tables-are ∙ first-stratum (levelAt L j) formed-at
       ∙ ap (λ (l : lev.Level). greatest (l .rests)) (sym (opened-means (levelAt L j) formed-at))
 
-  pub begun-is : (w : Work) → j < many L → {s : ℕ} → s ≡ under 1000001 (levelOf t .rests) → placed Level (work j t s (w .lowers) (w .uppers) (w .best)) ≡ openAt L w j
-  begun-is w h {s} q =
-      ap₂ (λ (u : LevelTables) (z : ℕ). placed Level (work j u z (w .lowers) (w .uppers) (w .best))) tables-are (q ∙ stratum-is)
-      ∙ sym (ap (λ (b : Bool). pick b (placed Level (begunAt L w j)) (placed Optimum (work j (w .tables) (w .stratum) (w .lowers) (w .uppers) (w .best)))) (lt-ltb j (many L) h))
+  pub begun-is : (w : Work) → {s : ℕ} → s ≡ under 1000001 (levelOf t .rests) → work j t s (w .lowers) (w .uppers) (w .best) ≡ begunAt L w j
+  begun-is w {s} q = ap₂ (λ (u : LevelTables) (z : ℕ). work j u z (w .lowers) (w .uppers) (w .best)) tables-are (q ∙ stratum-is)
 
-pub none-left : (L : Levels) (w : Work) (j : ℕ) → many L ≤ j → placed Optimum (work j (w .tables) (w .stratum) (w .lowers) (w .uppers) (w .best)) ≡ openAt L w j
-none-left L w j h =
-    sym (ap (λ (b : Bool). pick b (placed Level (begunAt L w j)) (placed Optimum (work j (w .tables) (w .stratum) (w .lowers) (w .uppers) (w .best)))) (le-ltb j (many L) h))
+-- ---- what figures say
 
-pub open-from-is : (L : Levels) (w : Work) (j : ℕ) {i : ℕ} → i ≡ nextFrom (w .uppers) j (many L - j) → {x : Placed} → x ≡ openAt L w i → x ≡ openFrom L w j
-unfolding openFrom
-open-from-is L w j e q = q ∙ ap (openAt L w) e
+never : false ≡ true → ⊥
+never e = let z : _≡_ {A = ℕ} 0 1 = cc in absurd (omega arith)
+
+still : (L : Levels) (p : Phase) (w : Work) {e : Ending} → e ≡ ending p false w → Ends L w e (placed p w)
+still L p w q = subst (λ (e : Ending). Ends L w e (placed p w)) (sym q) (record { is = refl; within = λ z. absurd (never z) })
+
+ends-at : {L : Levels} {w : Work} {e : Ending} {x y : Placed} → Ends L w e x → x ≡ y → Ends L w e y
+ends-at a q = record { is = a .is ∙ q; within = a .within }
+
+-- ---- the levels from a place on
+
+abbrev atLevel : ℕ → Work → Work
+atLevel i w = work i (w .tables) (w .stratum) (w .lowers) (w .uppers) (w .best)
+
+module _ (L : Levels) (w : Work) (j : ℕ) {i : ℕ} (q : i ≡ nextFrom (w .uppers) j (many L - j)) where
+  from-there : {e : Ending} → Ends L w e (openAt L w i) → Ends L w e (openFrom L w j)
+  unfolding openFrom
+  from-there a = ends-at a (ap (openAt L w) q)
+
+  pub open-yes : i < many L → {e : Ending} → e ≡ ending Level true (atLevel i w) → Ends L w e (openFrom L w j)
+  open-yes h f =
+      from-there
+      (subst (λ (e : Ending). Ends L w e (openAt L w i)) (sym f)
+      (record { is = sym (ap (λ (b : Bool). pick b (placed Level (begunAt L w i)) (placed Optimum (atLevel i w))) (lt-ltb i (many L) h)); within = λ _. h }))
+
+  pub open-no : many L ≤ i → {e : Ending} → e ≡ ending Optimum false (atLevel i w) → Ends L w e (openFrom L w j)
+  open-no h f =
+      from-there
+      (subst (λ (e : Ending). Ends L w e (openAt L w i)) (sym f)
+      (record { is = sym (ap (λ (b : Bool). pick b (placed Level (begunAt L w i)) (placed Optimum (atLevel i w))) (le-ltb i (many L) h)); within = λ z. absurd (never z) }))
 
 -- ---- the level is settled, or not
 
-module _ (L : Levels) (w : Work) where
-  pub settle-yes : getD (w .uppers) (w .level) 0 ≡ w .tables .lower → {x : Placed} → x ≡ openFrom L w (w .level + 1) → x ≡ settleOf L w
+module _ (L : Levels) (w : Work) {e : Ending} where
+  pub settle-yes : getD (w .uppers) (w .level) 0 ≡ w .tables .lower → Ends L w e (openFrom L w (w .level + 1)) → Ends L w e (settleOf L w)
   unfolding settleOf
-  settle-yes e q = q ∙ sym (ap (λ (b : Bool). pick b (openFrom L w (w .level + 1)) (placed Level w)) (eq-eqb (getD (w .uppers) (w .level) 0) (w .tables .lower) e))
+  settle-yes h a = ends-at a (sym (ap (λ (b : Bool). pick b (openFrom L w (w .level + 1)) (placed Level w)) (eq-eqb (getD (w .uppers) (w .level) 0) (w .tables .lower) h)))
 
-  pub settle-no : getD (w .uppers) (w .level) 0 ≢ w .tables .lower → placed Level w ≡ settleOf L w
+  pub settle-no : getD (w .uppers) (w .level) 0 ≢ w .tables .lower → e ≡ ending Level false w → Ends L w e (settleOf L w)
   unfolding settleOf
-  settle-no n = sym (ap (λ (b : Bool). pick b (openFrom L w (w .level + 1)) (placed Level w)) (ne-eqb (getD (w .uppers) (w .level) 0) (w .tables .lower) n))
-
--- ---- the end of a query without a model
-
-module _ (L : Levels) (w : Work) {b : Bool} {t : LevelTables} (X : Tried) (e : tried b t ≡ X) where
-  pub without-full : b ≡ true → placed Full w ≡ triedWork L w X
-  without-full q = sym (ap (λ (c : Bool). pick c (placed Full w) (settleOf L (withTables w t))) q) ∙ ap (triedWork L w) e
-
-  pub without-more : b ≡ false → {u : Work} → u ≡ withTables w t → {x : Placed} → x ≡ settleOf L u → x ≡ triedWork L w X
-  without-more q f g = g ∙ ap (settleOf L) f ∙ sym (ap (λ (c : Bool). pick c (placed Full w) (settleOf L (withTables w t))) q) ∙ ap (triedWork L w) e
-
-pub level-of : {u x : Work} → u ≡ x → {n : ℕ} → x .level < n → u .level < n
-level-of e {n} h = subst (λ (z : Work). z .level < n) (sym e) h
+  settle-no n q =
+      ends-at (still L Level w q) (sym (ap (λ (b : Bool). pick b (openFrom L w (w .level + 1)) (placed Level w)) (ne-eqb (getD (w .uppers) (w .level) 0) (w .tables .lower) n)))
 
 -- ---- the end of the first query
 
-module _ (L : Levels) (w : Work) (v : List ℕ) {x : Turn} where
-  pub first-going : x ≡ Going → placed First w ≡ finishFirst L w v x
-  first-going e = ap (finishFirst L w v) (sym e)
+module _ (L : Levels) (w : Work) (v : List ℕ) {x : Turn} {e : Ending} where
+  pub first-going : x ≡ Going → e ≡ ending First false w → Ends L w e (finishFirst L w v x)
+  first-going q f = ends-at (still L First w f) (ap (finishFirst L w v) (sym q))
 
-  pub first-without : x ≡ Without → placed Incoherent w ≡ finishFirst L w v x
-  first-without e = ap (finishFirst L w v) (sym e)
+  pub first-without : x ≡ Without → e ≡ ending Incoherent false w → Ends L w e (finishFirst L w v x)
+  first-without q f = ends-at (still L Incoherent w f) (ap (finishFirst L w v) (sym q))
 
-  pub first-model : x ≡ Model → {b : Work} → b ≡ withBest L w v → {r : Placed} → r ≡ openFrom L b 0 → r ≡ finishFirst L w v x
-  first-model e f g = g ∙ ap (λ (b : Work). openFrom L b 0) f ∙ ap (finishFirst L w v) (sym e)
+  pub first-model : x ≡ Model → {b : Work} → b ≡ withBest L w v → Ends L b e (openFrom L b 0) → Ends L w e (finishFirst L w v x)
+  first-model q f a =
+      let h : Ends L (withBest L w v) e (openFrom L (withBest L w v) 0) = subst (λ (b : Work). Ends L b e (openFrom L b 0)) f a in
+      record { is = h .is ∙ ap (finishFirst L w v) (sym q); within = h .within }
 
 -- ---- the end of a query on a level
-
-module _ (L : Levels) (w : Work) (v ms : List ℕ) {x : Turn} where
-  pub level-going : x ≡ Going → placed Level w ≡ finishLevel L w v ms x
-  level-going e = ap (finishLevel L w v ms) (sym e)
-
-  pub level-without : x ≡ Without → {r : Placed} → r ≡ triedWork L w (triedTables (w .tables) (w .stratum) ms) → r ≡ finishLevel L w v ms x
-  level-without e g = g ∙ ap (finishLevel L w v ms) (sym e)
-
-  pub level-model : x ≡ Model → {b : Work} → b ≡ betterOf L w v → {u : Work} → u ≡ fallen b → {r : Placed} → r ≡ settleOf L u → r ≡ finishLevel L w v ms x
-  level-model e f q g = g ∙ ap (settleOf L) (q ∙ ap fallen f) ∙ ap (finishLevel L w v ms) (sym e)
 
 -- a better model changes neither the level nor its tables
 better-keeps : (P : Work → Type 0) (L : Levels) (w : Work) (v : List ℕ) → P (withBest L w v) → P w → P (betterOf L w v)
@@ -170,25 +170,155 @@ unfolding betterOf
 better-keeps P L w v h k =
     elim (cheaper ltb (take (many L) (costsOf L v)) (take (many L) (w .uppers))) as (λ b. P (pick b (withBest L w v) w)) [ true ↦ h | false ↦ k ]
 
-pub better-tables : (L : Levels) (w : Work) (v : List ℕ) → FormedTables (w .tables) → {b : Work} → b ≡ betterOf L w v → FormedTables (b .tables)
-better-tables L w v f e = subst (λ (b : Work). FormedTables (b .tables)) (sym e) (better-keeps (λ b. FormedTables (b .tables)) L w v f f)
+pub better-level : (L : Levels) (w : Work) (v : List ℕ) {n : ℕ} → w .level < n → {b : Work} → b ≡ betterOf L w v → {s : ℕ} {u : Work} → u ≡ fallenTo s b → u .level < n
+better-level L w v {n} h e {s} q = subst (λ (u : Work). u .level < n) (sym (q ∙ ap (fallenTo s) e)) (better-keeps (λ b. b .level < n) L w v h h)
 
-pub better-level : (L : Levels) (w : Work) (v : List ℕ) {n : ℕ} → w .level < n → {b : Work} → b ≡ betterOf L w v → {u : Work} → u ≡ fallen b → u .level < n
-better-level L w v {n} h e q = subst (λ (u : Work). u .level < n) (sym (q ∙ ap fallen e)) (better-keeps (λ b. b .level < n) L w v h h)
+pub model-is : (L : Levels) (w : Work) (v : List ℕ) {s : ℕ} → s ≡ under (w .stratum) (levelOf (w .tables) .rests) → {b : Work} → b ≡ betterOf L w v → {u : Work} → u ≡ fallenTo s b
+    → {e : Ending} → Ends L u e (settleOf L u) → Ends L w e (settleOf L (fallen (betterOf L w v)))
+model-is L w v {s} q {b} f {u} g {e} a = record { is = same ∙ there .is; within = there .within }
+  where
+    is-fallen : u ≡ fallen (betterOf L w v)
+    is-fallen =
+        g ∙ ap₂ fallenTo q f
+        ∙ better-keeps (λ (y : Work). fallenTo (under (w .stratum) (levelOf (w .tables) .rests)) y ≡ fallen y) L w v refl refl
+
+    there : Ends L (fallen (betterOf L w v)) e (settleOf L (fallen (betterOf L w v)))
+    there = subst (λ (y : Work). Ends L y e (settleOf L y)) is-fallen a
+
+    same : closed L (e .phase) (e .opens) (standingOf w e) ≡ closed L (e .phase) (e .opens) (standingOf (fallen (betterOf L w v)) e)
+    same = better-keeps (λ (y : Work). closed L (e .phase) (e .opens) (standingOf w e) ≡ closed L (e .phase) (e .opens) (standingOf y e)) L w v refl refl
+
+module _ (L : Levels) (w : Work) (v : List ℕ) (b : Bool) {x : Turn} {e : Ending} where
+  pub level-going : x ≡ Going → e ≡ ending Level false w → Ends L w e (finishedLevel L b w v x)
+  level-going q f = ends-at (still L Level w f) (ap (finishedLevel L b w v) (sym q))
+
+  pub level-recorded : x ≡ Without → b ≡ true → Ends L w e (settleOf L w) → Ends L w e (finishedLevel L b w v x)
+  level-recorded q t a = ends-at a (sym (ap (λ (c : Bool). pick c (settleOf L w) (placed Full w)) t) ∙ ap (finishedLevel L b w v) (sym q))
+
+  pub level-full : x ≡ Without → b ≡ false → e ≡ ending Full false w → Ends L w e (finishedLevel L b w v x)
+  level-full q t f = ends-at (still L Full w f) (sym (ap (λ (c : Bool). pick c (settleOf L w) (placed Full w)) t) ∙ ap (finishedLevel L b w v) (sym q))
+
+  pub level-model : x ≡ Model → Ends L w e (settleOf L (fallen (betterOf L w v))) → Ends L w e (finishedLevel L b w v x)
+  level-model q a = ends-at a (ap (finishedLevel L b w v) (sym q))
 
 -- the end of any query, by the phase
-module _ (L : Levels) (w : Work) (v ms : List ℕ) (x : Turn) {p : Phase} where
-  pub phase-first : p ≡ First → {r : Placed} → r ≡ finishFirst L w v x → r ≡ finishOf L p w v ms x
-  phase-first e g = g ∙ ap (λ (y : Phase). finishOf L y w v ms x) (sym e)
+module _ (L : Levels) (w : Work) (v : List ℕ) (b : Bool) (x : Turn) {p : Phase} {e : Ending} where
+  at-phase : {q : Phase} → p ≡ q → Ends L w e (finishedOf L q b w v x) → Ends L w e (finishedOf L p b w v x)
+  at-phase h a = ends-at a (ap (λ (y : Phase). finishedOf L y b w v x) (sym h))
 
-  pub phase-level : p ≡ Level → {r : Placed} → r ≡ finishLevel L w v ms x → r ≡ finishOf L p w v ms x
-  phase-level e g = g ∙ ap (λ (y : Phase). finishOf L y w v ms x) (sym e)
+  pub phase-first : p ≡ First → Ends L w e (finishFirst L w v x) → Ends L w e (finishedOf L p b w v x)
+  phase-first h a = at-phase h a
 
-  pub phase-optimum : p ≡ Optimum → placed Optimum w ≡ finishOf L p w v ms x
-  phase-optimum e = ap (λ (y : Phase). finishOf L y w v ms x) (sym e)
+  pub phase-level : p ≡ Level → Ends L w e (finishedLevel L b w v x) → Ends L w e (finishedOf L p b w v x)
+  phase-level h a = at-phase h a
 
-  pub phase-incoherent : p ≡ Incoherent → placed Incoherent w ≡ finishOf L p w v ms x
-  phase-incoherent e = ap (λ (y : Phase). finishOf L y w v ms x) (sym e)
+  pub phase-optimum : p ≡ Optimum → e ≡ ending Optimum false w → Ends L w e (finishedOf L p b w v x)
+  phase-optimum h q = at-phase h (still L Optimum w q)
 
-  pub phase-full : p ≡ Full → placed Full w ≡ finishOf L p w v ms x
-  phase-full e = ap (λ (y : Phase). finishOf L y w v ms x) (sym e)
+  pub phase-incoherent : p ≡ Incoherent → e ≡ ending Incoherent false w → Ends L w e (finishedOf L p b w v x)
+  phase-incoherent h q = at-phase h (still L Incoherent w q)
+
+  pub phase-full : p ≡ Full → e ≡ ending Full false w → Ends L w e (finishedOf L p b w v x)
+  phase-full h q = at-phase h (still L Full w q)
+
+-- ---- a core is recorded, or not
+
+pub asks-level : (p : Phase) (x : Turn) → asksCore p x ≡ true → p ≡ Level
+asks-level First x h = absurd (never h)
+asks-level Level x h = refl
+asks-level Optimum x h = absurd (never h)
+asks-level Incoherent x h = absurd (never h)
+asks-level Full x h = absurd (never h)
+
+asks-turn : (x : Turn) → asksCore Level x ≡ true → x ≡ Without
+asks-turn Going h = absurd (never h)
+asks-turn Without h = refl
+asks-turn Model h = absurd (never h)
+
+pub asks-without : (p : Phase) (x : Turn) → asksCore p x ≡ true → x ≡ Without
+asks-without First x h = absurd (never h)
+asks-without Level x h = asks-turn x h
+asks-without Optimum x h = absurd (never h)
+asks-without Incoherent x h = absurd (never h)
+asks-without Full x h = absurd (never h)
+
+module _ (p : Phase) (x : Turn) (t : LevelTables) (n : ℕ) {a : Bool} (q : a ≡ asksCore p x) where
+  pub records-no : a ≡ false → false ≡ recordsOf p x t n
+  records-no h = sym (ap (λ (c : Bool). c && coreFits (t .count) (heldIn t) n) (sym q ∙ h))
+
+  pub records-yes : a ≡ true → {h : ℕ} → h ≡ heldIn t → {b : Bool} → b ≡ coreFits (t .count) h n → b ≡ recordsOf p x t n
+  records-yes h k f = f ∙ ap (λ (y : ℕ). coreFits (t .count) y n) k ∙ sym (ap (λ (c : Bool). c && coreFits (t .count) (heldIn t) n) (sym q ∙ h))
+
+  -- the tables are asked only where a core is
+  pub records-counted : (p ≡ Level → x ≡ Without → Counted t n) → a ≡ true → Counted t n
+  records-counted f h = f (asks-level p x (sym q ∙ h)) (asks-without p x (sym q ∙ h))
+
+pub recorded-is : (w : Work) (ms : List ℕ) {t : LevelTables} → t ≡ recordedTables (w .tables) (w .stratum) ms → withTables w t ≡ recordedWork w ms
+recorded-is w ms e = ap (withTables w) e
+
+-- by the figures the end comes to what it is
+pub finish-by : (L : Levels) (p : Phase) (w : Work) (v ms : List ℕ) (x : Turn) {b : Bool} → b ≡ recordsOf p x (w .tables) (length ms)
+    → finishedOf L p b (pick b (recordedWork w ms) w) v x ≡ finishOf L p w v ms x
+finish-by L p w v ms x q = ap (λ (b : Bool). finishedOf L p b (pick b (recordedWork w ms) w) v x) q ∙ by-phase p
+  where
+    by-room : (b : Bool) → finishedLevel L b (pick b (recordedWork w ms) w) v Without ≡ triedWork L w (pick b (tried false (recordedTables (w .tables) (w .stratum) ms)) (tried true (w .tables)))
+    by-room true = refl
+    by-room false = refl
+
+    by-turn : (y : Turn) → finishedOf L Level (recordsOf Level y (w .tables) (length ms)) (pick (recordsOf Level y (w .tables) (length ms)) (recordedWork w ms) w) v y ≡ finishOf L Level w v ms y
+    by-turn Going = refl
+    by-turn Without = by-room (coreFits (w .tables .count) (heldIn (w .tables)) (length ms))
+    by-turn Model = refl
+
+    by-phase : (y : Phase) → finishedOf L y (recordsOf y x (w .tables) (length ms)) (pick (recordsOf y x (w .tables) (length ms)) (recordedWork w ms) w) v x ≡ finishOf L y w v ms x
+    by-phase First = refl
+    by-phase Level = by-turn x
+    by-phase Optimum = refl
+    by-phase Incoherent = refl
+    by-phase Full = refl
+
+-- what is known where a core is recorded
+and-first : (a b : Bool) → (a && b) ≡ true → a ≡ true
+and-first true b h = refl
+and-first false b h = h
+
+and-second : (a b : Bool) → (a && b) ≡ true → b ≡ true
+and-second true b h = h
+and-second false b h = absurd (never h)
+
+module _ (p : Phase) (x : Turn) (t : LevelTables) (n : ℕ) {b : Bool} (q : b ≡ recordsOf p x t n) (h : b ≡ true) where
+  pub records-level : p ≡ Level
+  records-level = asks-level p x (and-first (asksCore p x) (coreFits (t .count) (heldIn t) n) (sym q ∙ h))
+
+  pub records-without : x ≡ Without
+  records-without = asks-without p x (and-first (asksCore p x) (coreFits (t .count) (heldIn t) n) (sym q ∙ h))
+
+  pub records-fits : coreFits (t .count) (heldIn t) n ≡ true
+  records-fits = and-second (asksCore p x) (coreFits (t .count) (heldIn t) n) (sym q ∙ h)
+
+-- a model records none
+model-asks : (p : Phase) → asksCore p Model ≡ false
+model-asks First = refl
+model-asks Level = refl
+model-asks Optimum = refl
+model-asks Incoherent = refl
+model-asks Full = refl
+
+pub model-records : (p : Phase) (x : Turn) (t : LevelTables) (n : ℕ) {b : Bool} → b ≡ recordsOf p x t n → x ≡ Model → b ≡ false
+model-records p x t n q h = q ∙ ap (λ (y : Turn). recordsOf p y t n) h ∙ ap (λ (c : Bool). c && coreFits (t .count) (heldIn t) n) (model-asks p)
+
+-- a core leaves the level in work
+pub recorded-level : (w : Work) (ms : List ℕ) (b : Bool) {u : Work} → u ≡ pick b (recordedWork w ms) w → u .level ≡ w .level
+recorded-level w ms b e = ap (λ (y : Work). y .level) e ∙ go b
+  where
+    go : (c : Bool) → pick c (recordedWork w ms) w .level ≡ w .level
+    go true = refl
+    go false = refl
+
+pub level-of : {u x : Work} → u ≡ x → {n : ℕ} → x .level < n → u .level < n
+level-of e {n} h = subst (λ (z : Work). z .level < n) (sym e) h
+
+pub model-below : (p : Phase) (x : Turn) (w : Work) (ms : List ℕ) {b : Bool} → b ≡ recordsOf p x (w .tables) (length ms) → {u : Work} → u ≡ pick b (recordedWork w ms) w
+    → {s : ℕ} → s ≡ under (w .stratum) (levelOf (w .tables) .rests) → x ≡ Model → s ≡ under (u .stratum) (levelOf (u .tables) .rests)
+model-below p x w ms q e {s} f h =
+    subst (λ (y : Work). s ≡ under (y .stratum) (levelOf (y .tables) .rests)) (sym (e ∙ ap (λ (c : Bool). pick c (recordedWork w ms) w) (model-records p x (w .tables) (length ms) q h))) f

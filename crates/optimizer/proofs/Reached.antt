@@ -54,10 +54,6 @@ reached-steady {S} {s} r j k =
     let e : advancesOf S (r .made + j) freshSearch ≡ advancesOf S j s = advances-plus S (r .made) j freshSearch ∙ ap (advancesOf S j) (sym (r .is)) in
     subst (ReadyRun S k) e (valid-ready S (r .source) _ (advancesOf S (r .made + j) freshSearch) (reached-valid S (r .source) (r .made + j)) k)
 
-pub reached-ready : {S : Source} {s : Search} → Reached S s → ReadyRun S 1 s
-unfolding advancesOf
-reached-ready r = reached-steady r 0 1
-
 -- ---- what leads on
 
 pub reached-fresh : {S : Source} → FormedSource S → {s : Search} → s ≡ freshSearch → Reached S s

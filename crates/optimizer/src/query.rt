@@ -12,7 +12,8 @@ ghost use Prim.Native.Nat.{_≤_, _<_};
 ghost use lib.ListN.{length};
 ghost use Rattle.search.specs.Places.{SoundTrail};
 ghost use Rattle.counting.specs.Counters.{index};
-ghost use Rattle.cores.specs.Tables.{SoundTables};
+ghost use Rattle.cores.specs.Level.{under};
+ghost use Rattle.cores.specs.Tables.{levelOf, SoundTables};
 ghost use Rattle.cores.specs.Judging.{judging};
 ghost use Rattle.optimizer.specs.Source.{levelTables, source, Prepared};
 ghost use Rattle.optimizer.specs.Turn.{queryTables, queryBy, turned, turns, turnsOf};
@@ -25,6 +26,12 @@ pub struct Ran {
     pub trail: Places,
     pub blame: Blame,
     pub made: u32,
+}
+
+// The same, and the greatest remaining weight below the stratum.
+pub struct Asked {
+    pub ran: Ran,
+    pub below: u32,
 }
 
 // Steps of a query whose tables are lent.
@@ -218,13 +225,13 @@ pub fn run_query<'a>(
     trail: Places,
     blame: Blame,
     budget: u32,
-) -> Ran
+) -> Asked
     requires { ⌜ ReadyQuery (source n (now pool) (now rows) rulecount (levelTables (now levels) (now priorities) (now literals) (now weights) entrycount)) (workQuery w) ⌝ }
     requires { ⌜ GoodBlame (workQuery w) blame ⌝ }
     requires { ⌜ SoundTrail n trail ⌝ }
     requires { ⌜ SoundTables (w .tables) ⌝ }
     requires { ⌜ Prepared (source n (now pool) (now rows) rulecount (levelTables (now levels) (now priorities) (now literals) (now weights) entrycount)) (index (now starts) (now lists)) (index (now headstarts) (now headlists)) (now tried) ⌝ }
-    ensures { λ r. ⌜ turns (turned (r .turn) (r .trail) (r .blame)) (r .made) ≡ turnsOf (source n (now (pool .entry)) (now (rows .entry)) rulecount (levelTables (now (levels .entry)) (now (priorities .entry)) (now (literals .entry)) (now (weights .entry)) entrycount)) (workQuery w) budget trail blame ⌝ }
+    ensures { λ r. ⌜ (turns (turned (r .ran .turn) (r .ran .trail) (r .ran .blame)) (r .ran .made) ≡ turnsOf (source n (now (pool .entry)) (now (rows .entry)) rulecount (levelTables (now (levels .entry)) (now (priorities .entry)) (now (literals .entry)) (now (weights .entry)) entrycount)) (workQuery w) budget trail blame) × (r .below ≡ under (w .stratum) (levelOf (w .tables) .rests)) ⌝ }
 {
     let mut softs = [0i32; 4096];
     let mut cores = [0u16; 4096];
@@ -239,7 +246,7 @@ pub fn run_query<'a>(
     let members = t.members;
     let k = t.cores;
     let held = recording::held(ends, k);
-    run_columns(
+    let ran = run_columns(
         n,
         pool,
         rows,
@@ -266,5 +273,10 @@ pub fn run_query<'a>(
         trail,
         blame,
         budget,
-    )
+    );
+    let below = query::next_stratum(&rests[..count], w.stratum);
+    Asked {
+        ran: ran,
+        below: below,
+    }
 }

@@ -20,9 +20,20 @@ open-from-requires c κs = search needs
 returns : tie.Need-returns
 returns c = search (settle-yes, needs)
 
+figures-of-requires : tie.Need-figures-of-requires
+figures-of-requires c κs = search needs
+
 returns-2 : tie.Need-returns-2
 returns-2 c = search (settle-no, needs)
 
 pub settle-spec : {M : Type 1} → statement M
 settle-spec =
-    tie.close (tie.spec mul-if1 array-read-if1 add-open-from open-from-requires returns returns-2)
+    tie.close
+    (tie.spec
+    mul-if1
+    array-read-if1
+    add-open-from
+    open-from-requires
+    returns
+    figures-of-requires
+    returns-2)

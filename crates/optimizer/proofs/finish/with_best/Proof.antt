@@ -12,4 +12,8 @@ returns : tie.Need-returns
 returns c = search (best-is, needs)
 
 pub with-best-spec : {M : Type 1} → statement M
-with-best-spec = tie.close (tie.spec costs-requires returns)
+with-best-spec =
+    tie.close
+    (tie.spec
+    costs-requires
+    returns)

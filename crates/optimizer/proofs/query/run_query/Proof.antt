@@ -4,6 +4,7 @@ use mathlib.Core.Path.{sym, ap, _∙_, subst}
 use native.Mathlib.Omega.{arith}
 use borrow.Author.Needs.{needs}
 use Rattle.cores.specs.Columns.{columns}
+use Rattle.cores.specs.Level.{under}
 use Rattle.cores.specs.Tables.{SoundTables, FilledColumns}
 use Rattle.cores.proofs.Unpacked.{filled-by, zeros-long, reach-literals, reach-cores, reach-indices, reach-weights, reach-ends, reach-members, same-cores, few-many, cut-long}
 use Rattle.optimizer.specs.Source.{source, levelTables}
@@ -75,14 +76,23 @@ run-columns-requires c κs =
     let q = columns-query (a .args .w .tables) (columns (u .unpack .last .1 .1 .0) (u .unpack .last .1 .1 .1 .0) (u .unpack .last .1 .1 .1 .1 .0) (u .unpack .last .1 .1 .1 .1 .1 .0)) (filled u) (a .args .w .level) (a .args .w .stratum) (a .args .w .lowers) in
     (rw e (subst (λ (x : QueryTables). ReadyQuery S x) (sym q) (a .pre .0)), (rw e (subst (λ (x : QueryTables). GoodBlame x (a .args .blame)) (sym q) (a .pre .1 .0)), (a .pre .1 .1 .0, ((few-many (sound u) (filled u), same-cores (sound u) (filled u)), a .pre .1 .1 .1 .1))))
 
+array-share-prefix-rests-2 : tie.Need-array-share-prefix-rests-2
+array-share-prefix-rests-2 c = reach-weights (sound (c .before .before .before .before .before .before .before .before .before .before .before .before)) (filled (c .before .before .before .before .before .before .before .before .before .before .before .before))
+
+slice-aggregate-next-stratum : tie.Need-slice-aggregate-next-stratum
+slice-aggregate-next-stratum c = cut-long _ _ (reach-weights (sound (c .before .before .before .before .before .before .before .before .before .before .before .before .before)) (filled (c .before .before .before .before .before .before .before .before .before .before .before .before .before)))
+
+next-stratum-requires : tie.Need-next-stratum-requires
+next-stratum-requires c κs = search needs
+
 returns : tie.Need-returns
 returns c =
-    let a = c .before .before .before .before .before .before .before .before .before .before .before .before .before .before .before .before .before .before .before .before .before .before .before .before .before in
-    let u = c .before .before .before .before .before .before .before .before .before .before .before .before in
-    let e = c .before .before .before .before .before .before .before .before .held .ensures in
+    let a = c .before .before .before .before .before .before .before .before .before .before .before .before .before .before .before .before .before .before .before .before .before .before .before .before .before .before .before in
+    let u = c .before .before .before .before .before .before .before .before .before .before .before .before .before .before in
+    let e = c .before .before .before .before .before .before .before .before .before .before .held .ensures in
     let S = source (a .args .n) (a .args .pool .now) (a .args .rows .now) (a .args .rulecount) (levelTables (a .args .levels .now) (a .args .priorities .now) (a .args .literals .now) (a .args .weights .now) (a .args .entrycount)) in
     let q = columns-query (a .args .w .tables) (columns (u .unpack .last .1 .1 .0) (u .unpack .last .1 .1 .1 .0) (u .unpack .last .1 .1 .1 .1 .0) (u .unpack .last .1 .1 .1 .1 .1 .0)) (filled u) (a .args .w .level) (a .args .w .stratum) (a .args .w .lowers) in
-    (rw e at (c .run-columns .ensures)) ∙ ap (λ (x : QueryTables). turnsOf S x (a .args .budget) (a .args .trail) (a .args .blame)) q
+    ((rw e at (c .before .before .run-columns .ensures)) ∙ ap (λ (x : QueryTables). turnsOf S x (a .args .budget) (a .args .trail) (a .args .blame)) q, c .next-stratum .ensures ∙ ap (under (a .args .w .stratum)) (filled u .weights))
 
 pub run-query-spec : {M : Type 1} → statement M
 run-query-spec =
@@ -104,4 +114,7 @@ run-query-spec =
     array-share-prefix-members
     slice-aggregate-run-columns-6
     run-columns-requires
+    array-share-prefix-rests-2
+    slice-aggregate-next-stratum
+    next-stratum-requires
     returns)

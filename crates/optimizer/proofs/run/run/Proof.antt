@@ -1,22 +1,32 @@
 -- `optimizer::run::run` meets its contract. The invariant is `Running` of Advancing.
 -- Assumes nothing.
-use mathlib.Core.Path.{refl}
+use mathlib.Core.Path.{_≡_, sym, ap, _∙_, subst}
+use mathlib.Core.List.{List}
+use mathlib.Core.Logic.{⊎-elim}
 use borrow.Author.Tests.{not-true, not-false}
 use borrow.Author.Needs.{needs}
-use Prim.Native.Nat.{_-_}
+use Prim.Native.Nat.{ℕ, _-_}
 use native.Mathlib.Omega.{arith}
+use lib.ListN.{length}
+use Rattle.asp.specs.Sets.{pick}
+use Rattle.cores.specs.Tables.{Counted}
 use Rattle.optimizer.specs.Source.{source, levelTables}
-use Rattle.optimizer.proofs.Advancing.{Running, running-start, running-ready, running-end, running-rest, made-more, running-next}
+use Rattle.optimizer.specs.State.{search as searchOf}
+use Rattle.optimizer.specs.Finish.{begunAt, recordedWork}
+use Rattle.optimizer.specs.Ready.{ReadyCore}
+use Rattle.optimizer.proofs.Finishing.{level-of, recorded-level, records-level, records-without, records-fits, model-below}
+use Rattle.optimizer.proofs.Advancing.{Running, running-start, running-ready, running-end, running-rest}
 use Rattle.optimizer.proofs.Reached.{reached-steady}
+use Rattle.optimizer.proofs.Running.{core-long, core-reach, core-ready, end-is, joined-yes, joined-no, ready, step-more, step-next, step-going}
 use Rattle.optimizer.proofs.run.run.Statement.{statement}
 use Rattle.optimizer.proofs.run.run.Tie as tie
 
 abbrev Inv-loop : tie.InvT-loop
-Inv-loop n pool rows rulecount levels priorities literals weights entrycount starts lists headstarts headlists tried budget s₀ made₀ s made =
-    Running (source n pool rows rulecount (levelTables levels priorities literals weights entrycount)) budget s₀ s made
+Inv-loop n pool rows rulecount levels priorities literals weights entrycount starts lists headstarts headlists tried budget phase₀ advances₀ trail₀ blame₀ work₀ made₀ phase advances trail blame work made =
+    Running (source n pool rows rulecount (levelTables levels priorities literals weights entrycount)) budget (searchOf phase₀ advances₀ trail₀ blame₀ work₀) (searchOf phase advances trail blame work) made
 
 abbrev μ-loop : tie.MeasureT-loop
-μ-loop n pool rows rulecount levels priorities literals weights entrycount starts lists headstarts headlists tried budget s₀ made₀ s made =
+μ-loop n pool rows rulecount levels priorities literals weights entrycount starts lists headstarts headlists tried budget phase₀ advances₀ trail₀ blame₀ work₀ made₀ phase advances trail blame work made =
     budget - made
 
 loop-holds : tie.Need-loop-holds Inv-loop μ-loop
@@ -25,28 +35,110 @@ loop-holds c = search (running-start, needs)
 is-running-requires : tie.Need-is-running-requires Inv-loop μ-loop
 is-running-requires c κs = search needs
 
+stopped-requires : tie.Need-stopped-requires Inv-loop μ-loop
+stopped-requires c κs = search needs
+
 returns : tie.Need-returns Inv-loop μ-loop
-returns c = running-rest (c .before .before .before .loop .inv) (c .before .is-running .ensures) (not-true _ (c .if1 .taken))
+returns c = c .stopped .ensures ∙ running-rest (c .before .before .before .before .loop .inv) (c .before .before .is-running .ensures) (not-true _ (c .before .if1 .taken))
 
-sub-run-steps : tie.Need-sub-run-steps Inv-loop μ-loop
-sub-run-steps c = search needs
+sub-run-query : tie.Need-sub-run-query Inv-loop μ-loop
+sub-run-query c = search needs
 
-run-steps-requires : tie.Need-run-steps-requires Inv-loop μ-loop
-run-steps-requires c κs =
-    let a = c .before .before .before .before .before .before .before .before .before .before in
-    (running-ready (c .before .before .before .loop .inv) (reached-steady (a .pre .0)) _, a .pre .1)
+run-query-requires : tie.Need-run-query-requires Inv-loop μ-loop
+run-query-requires c κs =
+    let a = c .before .before .before .before .before .before .before .before .before .before .before .before .before in
+    let r = running-ready (c .before .before .before .loop .inv) (reached-steady (a .pre .0)) 0 in
+    (r .query, (r .blame, (r .trail, (r .tables, a .pre .1))))
 
 add-made : tie.Need-add-made Inv-loop μ-loop
-add-made c = omega (arith, made-more (c .before .before .before .before .before .before .loop .inv) (c .before .before .before .before .before .loop-test .taken) (c .before .before .before .before .is-running .ensures) (not-false _ (c .before .before .before .if1 .left)) (running-ready (c .before .before .before .before .before .before .loop .inv) (reached-steady (c .before .before .before .before .before .before .before .before .before .before .before .before .before .pre .0)) 0 .figure) refl (c .before .before .run-steps .ensures), c .before .before .before .before .before .before .before .before .before .before .before .before .before .fits .budget)
+add-made c = omega (arith, step-more (c .before .before .before .before .before .before .loop .inv) (reached-steady (c .before .before .before .before .before .before .before .before .before .before .before .before .before .before .before .before .pre .0)) (c .before .before .before .before .before .loop-test .taken) (c .before .before .before .before .is-running .ensures) (not-false _ (c .before .before .before .if1 .left)) (c .before .before .run-query .ensures .0), c .before .before .before .before .before .before .before .before .before .before .before .before .before .before .before .before .fits .budget)
 
-loop-less : tie.Need-loop-less Inv-loop μ-loop
-loop-less c = omega (arith, made-more (c .before .before .before .before .before .before .loop .inv) (c .before .before .before .before .before .loop-test .taken) (c .before .before .before .before .is-running .ensures) (not-false _ (c .before .before .before .if1 .left)) (running-ready (c .before .before .before .before .before .before .loop .inv) (reached-steady (c .before .before .before .before .before .before .before .before .before .before .before .before .before .pre .0)) 0 .figure) refl (c .before .before .run-steps .ensures))
+counted-requires : tie.Need-counted-requires Inv-loop μ-loop
+counted-requires c κs = search needs
 
-loop-again : tie.Need-loop-again Inv-loop μ-loop
-loop-again c = running-next (c .before .before .before .before .before .before .loop .inv) (c .before .before .before .before .before .loop-test .taken) (c .before .before .before .before .is-running .ensures) (not-false _ (c .before .before .before .if1 .left)) (running-ready (c .before .before .before .before .before .before .loop .inv) (reached-steady (c .before .before .before .before .before .before .before .before .before .before .before .before .before .pre .0)) 0 .figure) refl (c .before .before .run-steps .ensures)
+is-going-requires : tie.Need-is-going-requires Inv-loop μ-loop
+is-going-requires c κs = search needs
+
+stopped-requires-2 : tie.Need-stopped-requires-2 Inv-loop μ-loop
+stopped-requires-2 c κs = search needs
 
 returns-2 : tie.Need-returns-2 Inv-loop μ-loop
-returns-2 c = running-end (c .before .loop .inv) (c .loop-test .left)
+returns-2 c = c .stopped2 .ensures ∙ step-going (c .before .before .before .before .before .before .before .before .before .before .before .before .loop .inv) (reached-steady (c .before .before .before .before .before .before .before .before .before .before .before .before .before .before .before .before .before .before .before .before .before .before .pre .0)) (c .before .before .before .before .before .before .before .before .before .before .before .loop-test .taken) (c .before .before .before .before .before .before .before .before .before .before .is-running .ensures) (not-false _ (c .before .before .before .before .before .before .before .before .before .if1 .left)) (c .before .before .before .before .before .before .before .before .run-query .ensures .0) (sym (c .before .before .is-going .ensures) ∙ c .before .if2 .taken) (c .before .before .before .before .before .counted .ensures)
+
+slice-aggregate-blamed : tie.Need-slice-aggregate-blamed Inv-loop μ-loop
+slice-aggregate-blamed c = sym (core-long (ready (c .before .before .before .before .before .before .before .before .before .before .before .before .before .before .loop .inv) (reached-steady (c .before .before .before .before .before .before .before .before .before .before .before .before .before .before .before .before .before .before .before .before .before .before .before .before .pre .0)) (c .before .before .before .before .before .before .before .before .before .before .before .before .before .loop-test .taken) (c .before .before .before .before .before .before .before .before .before .before .before .before .is-running .ensures) (not-false _ (c .before .before .before .before .before .before .before .before .before .before .before .if1 .left)) (c .before .before .before .before .before .before .before .before .before .before .run-query .ensures .0)) (c .before .before .before .before .before .before .before .before .before .before .run-query .ensures .0))
+
+blamed-requires : tie.Need-blamed-requires Inv-loop μ-loop
+blamed-requires c κs = core-reach (ready (c .before .before .before .before .before .before .before .before .before .before .before .before .before .before .loop .inv) (reached-steady (c .before .before .before .before .before .before .before .before .before .before .before .before .before .before .before .before .before .before .before .before .before .before .before .before .pre .0)) (c .before .before .before .before .before .before .before .before .before .before .before .before .before .loop-test .taken) (c .before .before .before .before .before .before .before .before .before .before .before .before .is-running .ensures) (not-false _ (c .before .before .before .before .before .before .before .before .before .before .before .if1 .left)) (c .before .before .before .before .before .before .before .before .before .before .run-query .ensures .0)) (c .before .before .before .before .before .before .before .before .before .before .run-query .ensures .0)
+
+records-requires : tie.Need-records-requires Inv-loop μ-loop
+records-requires c κs = λ p x. subst (λ (ms : List ℕ). Counted (c .before .before .before .before .before .before .before .before .before .before .before .before .before .before .before .before .loop .work .tables) (length ms)) (sym (c .before .blamed .ensures)) (core-ready (ready (c .before .before .before .before .before .before .before .before .before .before .before .before .before .before .before .before .loop .inv) (reached-steady (c .before .before .before .before .before .before .before .before .before .before .before .before .before .before .before .before .before .before .before .before .before .before .before .before .before .before .pre .0)) (c .before .before .before .before .before .before .before .before .before .before .before .before .before .before .before .loop-test .taken) (c .before .before .before .before .before .before .before .before .before .before .before .before .before .before .is-running .ensures) (not-false _ (c .before .before .before .before .before .before .before .before .before .before .before .before .before .if1 .left)) (c .before .before .before .before .before .before .before .before .before .before .before .before .run-query .ensures .0)) (c .before .before .before .before .before .before .before .before .before .before .before .before .run-query .ensures .0) p x .counted)
+
+recorded-requires : tie.Need-recorded-requires Inv-loop μ-loop
+recorded-requires c κs =
+    let r = ready (c .before .before .before .before .before .before .before .before .before .before .before .before .before .before .before .before .before .before .loop .inv) (reached-steady (c .before .before .before .before .before .before .before .before .before .before .before .before .before .before .before .before .before .before .before .before .before .before .before .before .before .before .before .before .pre .0)) (c .before .before .before .before .before .before .before .before .before .before .before .before .before .before .before .before .before .loop-test .taken) (c .before .before .before .before .before .before .before .before .before .before .before .before .before .before .before .before .is-running .ensures) (not-false _ (c .before .before .before .before .before .before .before .before .before .before .before .before .before .before .before .if1 .left)) (c .before .before .before .before .before .before .before .before .before .before .before .before .before .before .run-query .ensures .0) in
+    let s = c .before .before .before .before .before .before .before .before .before .before .before .before .before .before .before .before .before .before .loop in
+    let x = c .before .before .before .before .before .before .before .before .before .before .before .before .before .before .run-query .result .ran .turn in
+    let n = length (c .before .before .before .blamed .result .now) in
+    let l = records-level (s .phase) x (s .work .tables) n (c .before .records .ensures) (c .if3 .taken) in
+    let y = records-without (s .phase) x (s .work .tables) n (c .before .records .ensures) (c .if3 .taken) in (
+      omega (arith, r .level l, r .source .levels .levels-few),
+      subst (ReadyCore (s .work)) (sym (c .before .before .before .blamed .ensures)) (core-ready r (c .before .before .before .before .before .before .before .before .before .before .before .before .before .before .run-query .ensures .0) l y),
+      records-fits (s .phase) x (s .work .tables) n (c .before .records .ensures) (c .if3 .taken),
+    )
+
+-- the work after a core was recorded, or none
+work-recorded : (c : tie.Joined3 Inv-loop μ-loop) → c .if3 .work ≡ pick (c .before .records .result) (recordedWork (c .before .before .before .before .before .before .before .before .before .before .before .before .before .before .before .before .before .before .loop .work) (c .before .before .before .blamed .result .now)) (c .before .before .before .before .before .before .before .before .before .before .before .before .before .before .before .before .before .before .loop .work)
+work-recorded c =
+    let w = c .before .before .before .before .before .before .before .before .before .before .before .before .before .before .before .before .before .before .loop .work in
+    let u = recordedWork w (c .before .before .before .blamed .result .now) in
+    ⊎-elim (λ z. joined-yes u w (z .0 .taken) (z .2 ∙ z .1 .ensures)) (λ z. joined-no u w (z .0 .left) (z .1)) (c .if3 .came)
+
+finish-requires : tie.Need-finish-requires Inv-loop μ-loop
+finish-requires c κs =
+    let r = ready (c .before .before .before .before .before .before .before .before .before .before .before .before .before .before .before .before .before .before .loop .inv) (reached-steady (c .before .before .before .before .before .before .before .before .before .before .before .before .before .before .before .before .before .before .before .before .before .before .before .before .before .before .before .before .pre .0)) (c .before .before .before .before .before .before .before .before .before .before .before .before .before .before .before .before .before .loop-test .taken) (c .before .before .before .before .before .before .before .before .before .before .before .before .before .before .before .before .is-running .ensures) (not-false _ (c .before .before .before .before .before .before .before .before .before .before .before .before .before .before .before .if1 .left)) (c .before .before .before .before .before .before .before .before .before .before .before .before .before .before .run-query .ensures .0) in
+    let s = c .before .before .before .before .before .before .before .before .before .before .before .before .before .before .before .before .before .before .loop in
+    let ms = c .before .before .before .blamed .result .now in (
+      r .source .levels,
+      λ p. omega (arith, r .level p, recorded-level (s .work) ms (c .before .records .result) (work-recorded c)),
+      λ m. model-below (s .phase) (c .before .before .before .before .before .before .before .before .before .before .before .before .before .before .run-query .result .ran .turn) (s .work) ms (c .before .records .ensures) (work-recorded c) (c .before .before .before .before .before .before .before .before .before .before .before .before .before .before .run-query .ensures .1) m,
+    )
+
+standing-requires : tie.Need-standing-requires Inv-loop μ-loop
+standing-requires c κs = search needs
+
+begun-requires : tie.Need-begun-requires Inv-loop μ-loop
+begun-requires c κs = (ready (c .before .before .before .before .before .before .before .before .before .before .before .before .before .before .before .before .before .before .before .before .before .loop .inv) (reached-steady (c .before .before .before .before .before .before .before .before .before .before .before .before .before .before .before .before .before .before .before .before .before .before .before .before .before .before .before .before .before .before .before .pre .0)) (c .before .before .before .before .before .before .before .before .before .before .before .before .before .before .before .before .before .before .before .before .loop-test .taken) (c .before .before .before .before .before .before .before .before .before .before .before .before .before .before .before .before .before .before .before .is-running .ensures) (not-false _ (c .before .before .before .before .before .before .before .before .before .before .before .before .before .before .before .before .before .before .if1 .left)) (c .before .before .before .before .before .before .before .before .before .before .before .before .before .before .before .before .before .run-query .ensures .0) .source .levels, level-of (c .before .standing .ensures) (c .before .before .finish .ensures .within (c .if4 .taken)))
+
+-- the work after a level was opened, or none
+work-begun : (c : tie.Joined4 Inv-loop μ-loop)
+    → c .if4 .work ≡ pick (c .before .before .finish .result .opens) (begunAt (levelTables (c .before .before .before .before .before .before .before .before .before .before .before .before .before .before .before .before .before .before .before .before .before .before .before .before .before .before .before .before .before .before .before .args .levels .now) (c .before .before .before .before .before .before .before .before .before .before .before .before .before .before .before .before .before .before .before .before .before .before .before .before .before .before .before .before .before .before .before .args .priorities .now) (c .before .before .before .before .before .before .before .before .before .before .before .before .before .before .before .before .before .before .before .before .before .before .before .before .before .before .before .before .before .before .before .args .literals .now) (c .before .before .before .before .before .before .before .before .before .before .before .before .before .before .before .before .before .before .before .before .before .before .before .before .before .before .before .before .before .before .before .args .weights .now) (c .before .before .before .before .before .before .before .before .before .before .before .before .before .before .before .before .before .before .before .before .before .before .before .before .before .before .before .before .before .before .before .args .entrycount)) (c .before .standing .result) (c .before .standing .result .level)) (c .before .standing .result)
+work-begun c =
+    let v = c .before .standing .result in
+    let a = c .before .before .before .before .before .before .before .before .before .before .before .before .before .before .before .before .before .before .before .before .before .before .before .before .before .before .before .before .before .before .before in
+    let u = begunAt (levelTables (a .args .levels .now) (a .args .priorities .now) (a .args .literals .now) (a .args .weights .now) (a .args .entrycount)) v (v .level) in
+    ⊎-elim (λ z. joined-yes u v (z .0 .taken) (z .2 ∙ z .1 .ensures)) (λ z. joined-no u v (z .0 .left) (z .1)) (c .if4 .came)
+
+fresh-requires : tie.Need-fresh-requires Inv-loop μ-loop
+fresh-requires c κs = search needs
+
+fresh-blame-requires : tie.Need-fresh-blame-requires Inv-loop μ-loop
+fresh-blame-requires c κs = search needs
+
+loop-less : tie.Need-loop-less Inv-loop μ-loop
+loop-less c = omega (arith, step-more (c .before .before .before .before .before .before .before .before .before .before .before .before .before .before .before .before .before .before .before .before .before .before .before .loop .inv) (reached-steady (c .before .before .before .before .before .before .before .before .before .before .before .before .before .before .before .before .before .before .before .before .before .before .before .before .before .before .before .before .before .before .before .before .before .pre .0)) (c .before .before .before .before .before .before .before .before .before .before .before .before .before .before .before .before .before .before .before .before .before .before .loop-test .taken) (c .before .before .before .before .before .before .before .before .before .before .before .before .before .before .before .before .before .before .before .before .before .is-running .ensures) (not-false _ (c .before .before .before .before .before .before .before .before .before .before .before .before .before .before .before .before .before .before .before .before .if1 .left)) (c .before .before .before .before .before .before .before .before .before .before .before .before .before .before .before .before .before .before .before .run-query .ensures .0))
+
+loop-again : tie.Need-loop-again Inv-loop μ-loop
+loop-again c =
+    step-next (c .before .before .before .before .before .before .before .before .before .before .before .before .before .before .before .before .before .before .before .before .before .before .before .loop .inv) (reached-steady (c .before .before .before .before .before .before .before .before .before .before .before .before .before .before .before .before .before .before .before .before .before .before .before .before .before .before .before .before .before .before .before .before .before .pre .0)) (c .before .before .before .before .before .before .before .before .before .before .before .before .before .before .before .before .before .before .before .before .before .before .loop-test .taken) (c .before .before .before .before .before .before .before .before .before .before .before .before .before .before .before .before .before .before .before .before .before .is-running .ensures) (not-false _ (c .before .before .before .before .before .before .before .before .before .before .before .before .before .before .before .before .before .before .before .before .if1 .left)) (c .before .before .before .before .before .before .before .before .before .before .before .before .before .before .before .before .before .before .before .run-query .ensures .0)
+    (end-is (ready (c .before .before .before .before .before .before .before .before .before .before .before .before .before .before .before .before .before .before .before .before .before .before .before .loop .inv) (reached-steady (c .before .before .before .before .before .before .before .before .before .before .before .before .before .before .before .before .before .before .before .before .before .before .before .before .before .before .before .before .before .before .before .before .before .pre .0)) (c .before .before .before .before .before .before .before .before .before .before .before .before .before .before .before .before .before .before .before .before .before .before .loop-test .taken) (c .before .before .before .before .before .before .before .before .before .before .before .before .before .before .before .before .before .before .before .before .before .is-running .ensures) (not-false _ (c .before .before .before .before .before .before .before .before .before .before .before .before .before .before .before .before .before .before .before .before .if1 .left)) (c .before .before .before .before .before .before .before .before .before .before .before .before .before .before .before .before .before .before .before .run-query .ensures .0)) (c .before .before .before .before .before .before .before .before .before .before .before .before .before .before .before .before .before .before .before .run-query .ensures .0) (sym (c .before .before .before .before .before .before .before .before .before .before .before .before .before .is-going .ensures) ∙ c .before .before .before .before .before .before .before .before .before .before .before .before .if2 .left) (c .before .before .before .before .before .before .before .before .before .before .before .before .before .before .before .before .counted .ensures) (c .before .before .before .before .before .before .before .before .blamed .ensures) (c .before .before .before .before .before .before .records .ensures)
+    (work-recorded (c .before .before .before .before .before)) (c .before .before .before .before .finish .ensures) (c .before .before .before .standing .ensures) (work-begun (c .before .before)) (c .before .fresh .ensures) (c .fresh-blame .ensures))
+
+stopped-requires-3 : tie.Need-stopped-requires-3 Inv-loop μ-loop
+stopped-requires-3 c κs = search needs
+
+returns-3 : tie.Need-returns-3 Inv-loop μ-loop
+returns-3 c = c .stopped3 .ensures ∙ running-end (c .before .before .loop .inv) (c .before .loop-test .left)
 
 pub run-spec : {M : Type 1} → statement M
 run-spec =
@@ -56,10 +148,25 @@ run-spec =
     μ-loop
     loop-holds
     is-running-requires
+    stopped-requires
     returns
-    sub-run-steps
-    run-steps-requires
+    sub-run-query
+    run-query-requires
     add-made
+    counted-requires
+    is-going-requires
+    stopped-requires-2
+    returns-2
+    slice-aggregate-blamed
+    blamed-requires
+    records-requires
+    recorded-requires
+    finish-requires
+    standing-requires
+    begun-requires
+    fresh-requires
+    fresh-blame-requires
     loop-less
     loop-again
-    returns-2)
+    stopped-requires-3
+    returns-3)

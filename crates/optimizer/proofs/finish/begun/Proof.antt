@@ -1,11 +1,11 @@
--- `optimizer::finish::open_at` meets its contract.
+-- `optimizer::finish::begun` meets its contract.
 -- Assumes nothing.
 use mir.Syntax.{w32}
 use mir.Val.{SFits}
-use Rattle.optimizer.proofs.Finishing.{begun-formed, begun-is, none-left}
+use Rattle.optimizer.proofs.Finishing.{begun-formed, begun-is}
 use borrow.Author.Needs.{needs}
-use Rattle.optimizer.proofs.finish.open_at.Statement.{statement}
-use Rattle.optimizer.proofs.finish.open_at.Tie as tie
+use Rattle.optimizer.proofs.finish.begun.Statement.{statement}
+use Rattle.optimizer.proofs.finish.begun.Tie as tie
 
 literal-at-requires : tie.Need-literal-at-requires
 literal-at-requires c κs = search needs
@@ -19,10 +19,11 @@ next-stratum-requires c κs = let f : SFits w32 (c .before .literal-at .result) 
 returns : tie.Need-returns
 returns c = let f : SFits w32 (c .before .before .literal-at .result) = record { sfits = c .before .before .literal-at .ok } in search (begun-is, f, needs)
 
-returns-2 : tie.Need-returns-2
-returns-2 c = search (none-left, needs)
-
-pub open-at-spec : {M : Type 1} → statement M
-open-at-spec =
+pub begun-spec : {M : Type 1} → statement M
+begun-spec =
     tie.close
-    (tie.spec literal-at-requires opened-requires next-stratum-requires returns returns-2)
+    (tie.spec
+    literal-at-requires
+    opened-requires
+    next-stratum-requires
+    returns)
