@@ -10,14 +10,15 @@ ghost use Rattle.asp.specs.Literal.{sameℤ};
 ghost use Rattle.asp.specs.Tables.{entriesOf};
 ghost use Rattle.cores.specs.Tables.{entrySoft, emptyTables, countsAt, openedTables};
 
+// A number stands between two tables: the compiler then keeps each table apart, and copies one where one changes.
 pub struct LevelTables {
     pub softs: [Soft; 4096],
+    pub count: usize,
     // the members of all cores, one core after the other
     pub members: [u16; 4096],
+    pub cores: usize,
     // where core j, counted from 1, ends in them; at 0 stands 0
     pub ends: [u16; 4097],
-    pub count: usize,
-    pub cores: usize,
     pub lower: u64,
 }
 

@@ -20,12 +20,12 @@ ghost use Rattle.optimizer.specs.Turn.{queryTables, queryBy, turned, tur
 ghost use Rattle.optimizer.specs.Advance.{workQuery};
 ghost use Rattle.optimizer.specs.Ready.{ReadyQuery, GoodBlame};
 
-// What some steps came to, the trail and the blame after them, and how many they were.
+// What some steps came to, how many they were, and the trail and the blame after them.
 pub struct Ran {
     pub turn: Turn,
+    pub made: u32,
     pub trail: Places,
     pub blame: Blame,
-    pub made: u32,
 }
 
 // The same, and the greatest remaining weight below the stratum.

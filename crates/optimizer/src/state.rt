@@ -15,8 +15,8 @@ pub enum Phase {
 // entries, 1 for a blamed one.
 pub struct Blame {
     pub flags: [u8; 4096],
-    pub core: [u16; 4096],
     pub from: usize,
+    pub core: [u16; 4096],
 }
 
 // What stands still during a query: the number of settled levels, which is the place of the level in work; its soft literals and cores; the stratum; the lower bounds;

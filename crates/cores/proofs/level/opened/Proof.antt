@@ -199,13 +199,13 @@ module _ {M : Type 1} (𝓤 : URA M) (H : Heap 𝓤) (A : Atoms 𝓤) (W : Given
     Cell v = vstruct (ofList (v ∷ part 1 ∷ part 2 ∷ part 3 ∷ part 4 ∷ part 5 ∷ []))
 
     abbrev Final : Val → ℕ → Val
-    Final v k = vstruct (ofList (v ∷ part 1 ∷ part 2 ∷ vint w64 k ∷ part 4 ∷ part 5 ∷ []))
+    Final v k = vstruct (ofList (v ∷ vint w64 k ∷ part 2 ∷ part 3 ∷ part 4 ∷ part 5 ∷ []))
 
     is-end : (xs : List Soft) (v : Val) (k : ℕ) → Is Table xs (v ∷ []) → k < 2 ^ 64 → Is LT.the-row (End xs k) (Final v k ∷ [])
     is-end xs v k is fits =
         let o = LL.owed LT.the-type LT′.the-laws r _ ir in (
-          (v ∷ [], (part 1 ∷ [], (part 2 ∷ [], (vint w64 k ∷ [], (part 4 ∷ [], (part 5 ∷ [], tt)))))),
-          (refl, (is-records (Struct (D.shape T.the-type)) Soft (T.the-type .to) N xs _ is, (o .1 .0, (o .1 .1 .0, ((refl, fits), (o .1 .1 .1 .1 .0, (o .1 .1 .1 .1 .1 .0, tt))))))),
+          (v ∷ [], (vint w64 k ∷ [], (part 2 ∷ [], (part 3 ∷ [], (part 4 ∷ [], (part 5 ∷ [], tt)))))),
+          (refl, (is-records (Struct (D.shape T.the-type)) Soft (T.the-type .to) N xs _ is, ((refl, fits), (o .1 .1 .0, (o .1 .1 .1 .0, (o .1 .1 .1 .1 .0, (o .1 .1 .1 .1 .1 .0, tt))))))),
         )
 
     typed-all : (xs : List Soft) (v : Val) (k : ℕ) → Is Table xs (v ∷ []) → k < 2 ^ 64 → Holds (hasTy (ty 0) (Final v k)) × WT (Final v k)
@@ -315,7 +315,7 @@ module _ {M : Type 1} (𝓤 : URA M) (H : Heap 𝓤) (A : Atoms 𝓤) (W : Given
           let bound : z .0 ≤ n = (z .1 .1 .1 .1 .1) .below in
           let k-fits : z .1 .0 < 2 ^ 64 = omega arith in
           jumps ! $ exec ! C Λ En body.t-6 (atRet En Post) $
-          assigns ! (of-opd ! (load ! (from ! (stop !)) (look ! 16 refl))) (from ! (fld ! refl (stop !))) (store-in ! 18 (sub ! 3 refl (whole !)) (tt, record { fits = k-fits })) $
+          assigns ! (of-opd ! (load ! (from ! (stop !)) (look ! 16 refl))) (from ! (fld ! refl (stop !))) (store-in ! 18 (sub ! 1 refl (whole !)) (tt, record { fits = k-fits })) $
           assigns ! (of-opd ! (load ! (from ! (stop !)) (look ! 18 refl))) (from ! (stop !)) (init ! 30 refl (typed-all (z .1 .1 .0) (z .1 .1 .1 .0) (z .1 .0) (z .1 .1 .1 .1 .0) k-fits)) $
           returns ! (look ! 30 refl) $ forget ! 10 refl $ forget ! 14 refl $ forget ! 16 refl $ forget ! 18 refl $ forget ! 20 refl $ forget ! 22 refl $ forget ! 24 refl $ forget ! 26 refl $ forget ! 28 refl $ forget ! 30 refl $
           move ! (30 ∷ 31 ∷ []) $ free1 ! $ move ! (28 ∷ 29 ∷ []) $ free1 ! $ move ! (26 ∷ 27 ∷ []) $ free1 ! $ move ! (24 ∷ 25 ∷ []) $ free1 ! $ move ! (22 ∷ 23 ∷ []) $ free1 ! $ move ! (20 ∷ 21 ∷ []) $ free1 ! $ move ! (18 ∷ 19 ∷ []) $ free1 ! $ move ! (16 ∷ 17 ∷ []) $ free1 ! $ move ! (14 ∷ 15 ∷ []) $ free1 ! $ move ! (12 ∷ 13 ∷ []) $ free1 ! $ move ! (10 ∷ 11 ∷ []) $ free1 ! $ move ! (8 ∷ 9 ∷ []) $ free1 ! $ move ! (6 ∷ 7 ∷ []) $ free1 ! $ move ! (4 ∷ 5 ∷ []) $ free1 ! $ move ! (2 ∷ 3 ∷ []) $ free1 ! $ move ! (0 ∷ 1 ∷ []) $ free1 ! $ free0 ! $
