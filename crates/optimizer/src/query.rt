@@ -1,36 +1,26 @@
 // Steps of one query: the level's tables are unpacked into columns once, and lent to every step.
-use crate::state::Blame;
-use crate::state::Turn;
 use crate::state::Work;
 use crate::turn;
+use crate::turn::Steps;
 use cores::query;
 use cores::recording;
 use indexing::fill;
-use search::trail::Places;
 ghost use mathlib.Core.Path.{_≡_};
 ghost use Prim.Native.Nat.{_≤_, _<_};
 ghost use lib.ListN.{length};
-ghost use Rattle.search.specs.Places.{SoundTrail};
+ghost use Rattle.search.specs.Places.{places, SoundTrail};
 ghost use Rattle.counting.specs.Counters.{index};
 ghost use Rattle.cores.specs.Level.{under};
 ghost use Rattle.cores.specs.Tables.{levelOf, SoundTables};
 ghost use Rattle.cores.specs.Judging.{judging};
 ghost use Rattle.optimizer.specs.Source.{levelTables, source, Prepared};
-ghost use Rattle.optimizer.specs.Turn.{queryTables, queryBy, turned, turns, turnsOf};
+ghost use Rattle.optimizer.specs.Turn.{queryTables, queryBy, blameTables, turned, turns, turnsOf};
 ghost use Rattle.optimizer.specs.Advance.{workQuery};
 ghost use Rattle.optimizer.specs.Ready.{ReadyQuery, GoodBlame};
 
-// What some steps came to, how many they were, and the trail and the blame after them.
-pub struct Ran {
-    pub turn: Turn,
-    pub made: u32,
-    pub trail: Places,
-    pub blame: Blame,
-}
-
-// The same, and the greatest remaining weight below the stratum.
+// What steps came to, and the greatest remaining weight below the stratum.
 pub struct Asked {
-    pub ran: Ran,
+    pub steps: Steps,
     pub below: u32,
 }
 
@@ -60,24 +50,24 @@ fn run_lent<'a>(
     headstarts: &'a [u16],
     headlists: &'a [u16],
     tried: &'a [u8; 1025],
-    trail: Places,
-    blame: Blame,
+    lits: &mut [i32; 1024],
+    marks: &mut [u8; 1024],
+    value: &mut [u8; 1025],
+    flags: &mut [u8; 4096],
+    core: &mut [u16],
+    len: usize,
+    from: usize,
     budget: u32,
-) -> Ran
+) -> Steps
     requires { ⌜ ReadyQuery (source n (now pool) (now rows) rulecount (levelTables (now levels) (now priorities) (now literals) (now weights) entrycount)) (queryTables level (now lowers) (now wished) (now spots) (now assumed) (judging (now softs) (now cores) (now indices) (now ends) (now members))) ⌝ }
-    requires { ⌜ GoodBlame (queryTables level (now lowers) (now wished) (now spots) (now assumed) (judging (now softs) (now cores) (now indices) (now ends) (now members))) blame ⌝ }
-    requires { ⌜ SoundTrail n trail ⌝ }
+    requires { ⌜ GoodBlame (queryTables level (now lowers) (now wished) (now spots) (now assumed) (judging (now softs) (now cores) (now indices) (now ends) (now members))) (blameTables (now flags) (now core) from) ⌝ }
+    requires { ⌜ SoundTrail n (places (now lits) (now marks) (now value) len) ⌝ }
     requires { ⌜ Prepared (source n (now pool) (now rows) rulecount (levelTables (now levels) (now priorities) (now literals) (now weights) entrycount)) (index (now starts) (now lists)) (index (now headstarts) (now headlists)) (now tried) ⌝ }
-    ensures { λ r. ⌜ turns (turned (r .turn) (r .trail) (r .blame)) (r .made) ≡ turnsOf (source n (now (pool .entry)) (now (rows .entry)) rulecount (levelTables (now (levels .entry)) (now (priorities .entry)) (now (literals .entry)) (now (weights .entry)) entrycount)) (queryTables level (now (lowers .entry)) (now (wished .entry)) (now (spots .entry)) (now (assumed .entry)) (judging (now (softs .entry)) (now (cores .entry)) (now (indices .entry)) (now (ends .entry)) (now (members .entry)))) budget trail blame ⌝ }
+    ensures { λ r. ⌜ turns (turned (r .turning .turn) (places (now (lits .exit)) (now (marks .exit)) (now (value .exit)) (r .turning .len)) (blameTables (now (flags .exit)) (now (core .exit)) (r .turning .from))) (r .made) ≡ turnsOf (source n (now (pool .entry)) (now (rows .entry)) rulecount (levelTables (now (levels .entry)) (now (priorities .entry)) (now (literals .entry)) (now (weights .entry)) entrycount)) (queryTables level (now (lowers .entry)) (now (wished .entry)) (now (spots .entry)) (now (assumed .entry)) (judging (now (softs .entry)) (now (cores .entry)) (now (indices .entry)) (now (ends .entry)) (now (members .entry)))) budget (places (now (lits .entry)) (now (marks .entry)) (now (value .entry)) len) (blameTables (now (flags .entry)) (now (core .entry)) from) ⌝ }
 {
-    let mut lits = trail.lits;
-    let mut marks = trail.marks;
-    let mut value = trail.value;
-    let mut flags = blame.flags;
-    let mut core = blame.core;
     let mut key = [0u16; 2048];
-    let m = fill::fill(pool, rows, rulecount, starts, lists, &value, &mut key);
-    let r = turn::turns(
+    let m = fill::fill(pool, rows, rulecount, starts, lists, value, &mut key);
+    turn::turns(
         n,
         pool,
         rows,
@@ -102,35 +92,17 @@ fn run_lent<'a>(
         lists,
         headstarts,
         headlists,
-        &mut lits,
-        &mut marks,
-        &mut value,
+        lits,
+        marks,
+        value,
         &mut key,
-        &mut flags,
-        &mut core,
-        trail.len,
-        blame.from,
+        flags,
+        core,
+        len,
+        from,
         m,
         budget,
-    );
-    let made = r.made;
-    let t = r.turning;
-    let turn = t.turn;
-    Ran {
-        turn: turn,
-        trail: Places {
-            lits: lits,
-            marks: marks,
-            value: value,
-            len: t.len,
-        },
-        blame: Blame {
-            flags: flags,
-            core: core,
-            from: t.from,
-        },
-        made: made,
-    }
+    )
 }
 
 // Steps by the columns of the level in work.
@@ -158,16 +130,21 @@ fn run_columns<'a>(
     headstarts: &'a [u16],
     headlists: &'a [u16],
     tried: &'a [u8; 1025],
-    trail: Places,
-    blame: Blame,
+    lits: &mut [i32; 1024],
+    marks: &mut [u8; 1024],
+    value: &mut [u8; 1025],
+    flags: &mut [u8; 4096],
+    core: &mut [u16],
+    len: usize,
+    from: usize,
     budget: u32,
-) -> Ran
+) -> Steps
     requires { ⌜ ReadyQuery (source n (now pool) (now rows) rulecount (levelTables (now levels) (now priorities) (now literals) (now weights) entrycount)) (queryBy level (now lowers) (judging (now softs) (now cores) (now indices) (now ends) (now members)) (now rests) stratum) ⌝ }
-    requires { ⌜ GoodBlame (queryBy level (now lowers) (judging (now softs) (now cores) (now indices) (now ends) (now members)) (now rests) stratum) blame ⌝ }
-    requires { ⌜ SoundTrail n trail ⌝ }
+    requires { ⌜ GoodBlame (queryBy level (now lowers) (judging (now softs) (now cores) (now indices) (now ends) (now members)) (now rests) stratum) (blameTables (now flags) (now core) from) ⌝ }
+    requires { ⌜ SoundTrail n (places (now lits) (now marks) (now value) len) ⌝ }
     requires { ⌜ (length (now rests) ≤ 4096) × (length (now cores) ≡ length (now softs)) ⌝ }
     requires { ⌜ Prepared (source n (now pool) (now rows) rulecount (levelTables (now levels) (now priorities) (now literals) (now weights) entrycount)) (index (now starts) (now lists)) (index (now headstarts) (now headlists)) (now tried) ⌝ }
-    ensures { λ r. ⌜ turns (turned (r .turn) (r .trail) (r .blame)) (r .made) ≡ turnsOf (source n (now (pool .entry)) (now (rows .entry)) rulecount (levelTables (now (levels .entry)) (now (priorities .entry)) (now (literals .entry)) (now (weights .entry)) entrycount)) (queryBy level (now (lowers .entry)) (judging (now (softs .entry)) (now (cores .entry)) (now (indices .entry)) (now (ends .entry)) (now (members .entry))) (now (rests .entry)) stratum) budget trail blame ⌝ }
+    ensures { λ r. ⌜ turns (turned (r .turning .turn) (places (now (lits .exit)) (now (marks .exit)) (now (value .exit)) (r .turning .len)) (blameTables (now (flags .exit)) (now (core .exit)) (r .turning .from))) (r .made) ≡ turnsOf (source n (now (pool .entry)) (now (rows .entry)) rulecount (levelTables (now (levels .entry)) (now (priorities .entry)) (now (literals .entry)) (now (weights .entry)) entrycount)) (queryBy level (now (lowers .entry)) (judging (now (softs .entry)) (now (cores .entry)) (now (indices .entry)) (now (ends .entry)) (now (members .entry))) (now (rests .entry)) stratum) budget (places (now (lits .entry)) (now (marks .entry)) (now (value .entry)) len) (blameTables (now (flags .entry)) (now (core .entry)) from) ⌝ }
 {
     let mut assumed = [0u16; 4096];
     let mut spots = [0u16; 4096];
@@ -199,8 +176,13 @@ fn run_columns<'a>(
         headstarts,
         headlists,
         tried,
-        trail,
-        blame,
+        lits,
+        marks,
+        value,
+        flags,
+        core,
+        len,
+        from,
         budget,
     )
 }
@@ -222,16 +204,21 @@ pub fn run_query<'a>(
     headlists: &'a [u16],
     tried: &'a [u8; 1025],
     w: Work,
-    trail: Places,
-    blame: Blame,
+    lits: &mut [i32; 1024],
+    marks: &mut [u8; 1024],
+    value: &mut [u8; 1025],
+    flags: &mut [u8; 4096],
+    core: &mut [u16],
+    len: usize,
+    from: usize,
     budget: u32,
 ) -> Asked
     requires { ⌜ ReadyQuery (source n (now pool) (now rows) rulecount (levelTables (now levels) (now priorities) (now literals) (now weights) entrycount)) (workQuery w) ⌝ }
-    requires { ⌜ GoodBlame (workQuery w) blame ⌝ }
-    requires { ⌜ SoundTrail n trail ⌝ }
+    requires { ⌜ GoodBlame (workQuery w) (blameTables (now flags) (now core) from) ⌝ }
+    requires { ⌜ SoundTrail n (places (now lits) (now marks) (now value) len) ⌝ }
     requires { ⌜ SoundTables (w .tables) ⌝ }
     requires { ⌜ Prepared (source n (now pool) (now rows) rulecount (levelTables (now levels) (now priorities) (now literals) (now weights) entrycount)) (index (now starts) (now lists)) (index (now headstarts) (now headlists)) (now tried) ⌝ }
-    ensures { λ r. ⌜ (turns (turned (r .ran .turn) (r .ran .trail) (r .ran .blame)) (r .ran .made) ≡ turnsOf (source n (now (pool .entry)) (now (rows .entry)) rulecount (levelTables (now (levels .entry)) (now (priorities .entry)) (now (literals .entry)) (now (weights .entry)) entrycount)) (workQuery w) budget trail blame) × (r .below ≡ under (w .stratum) (levelOf (w .tables) .rests)) ⌝ }
+    ensures { λ r. ⌜ (turns (turned (r .steps .turning .turn) (places (now (lits .exit)) (now (marks .exit)) (now (value .exit)) (r .steps .turning .len)) (blameTables (now (flags .exit)) (now (core .exit)) (r .steps .turning .from))) (r .steps .made) ≡ turnsOf (source n (now (pool .entry)) (now (rows .entry)) rulecount (levelTables (now (levels .entry)) (now (priorities .entry)) (now (literals .entry)) (now (weights .entry)) entrycount)) (workQuery w) budget (places (now (lits .entry)) (now (marks .entry)) (now (value .entry)) len) (blameTables (now (flags .entry)) (now (core .entry)) from)) × (r .below ≡ under (w .stratum) (levelOf (w .tables) .rests)) ⌝ }
 {
     let mut softs = [0i32; 4096];
     let mut cores = [0u16; 4096];
@@ -246,7 +233,7 @@ pub fn run_query<'a>(
     let members = t.members;
     let k = t.cores;
     let held = recording::held(ends, k);
-    let ran = run_columns(
+    let steps = run_columns(
         n,
         pool,
         rows,
@@ -270,13 +257,18 @@ pub fn run_query<'a>(
         headstarts,
         headlists,
         tried,
-        trail,
-        blame,
+        lits,
+        marks,
+        value,
+        flags,
+        core,
+        len,
+        from,
         budget,
     );
     let below = query::next_stratum(&rests[..count], w.stratum);
     Asked {
-        ran: ran,
+        steps: steps,
         below: below,
     }
 }

@@ -10,7 +10,8 @@ use crate::state::Work;
 use search::trail::Places;
 ghost use mathlib.Core.Path.{_≡_};
 ghost use Rattle.optimizer.specs.Source.{levelTables, source, Prepared};
-ghost use Rattle.optimizer.specs.Turn.{isGoing};
+ghost use Rattle.search.specs.Places.{places};
+ghost use Rattle.optimizer.specs.Turn.{blameTables, isGoing};
 ghost use Rattle.counting.specs.Counters.{index};
 ghost use Rattle.optimizer.specs.State.{search, freshBlame, isRunning, freshSearch};
 ghost use Rattle.optimizer.specs.Advance.{advanceOf};
@@ -69,19 +70,33 @@ fn is_going(t: Turn) -> bool
 fn stopped(
     phase: Phase,
     advances: u64,
-    trail: Places,
-    blame: Blame,
+    lits: [i32; 1024],
+    marks: [u8; 1024],
+    value: [u8; 1025],
+    len: usize,
+    flags: [u8; 4096],
+    core: [u16; 4096],
+    from: usize,
     work: Work,
     made: u32,
 ) -> Advanced
-    ensures { λ r. ⌜ afterRun (r .search) (r .made) ≡ afterRun (search phase advances trail blame work) made ⌝ }
+    ensures { λ r. ⌜ afterRun (r .search) (r .made) ≡ afterRun (search phase advances (places lits marks value len) (blameTables flags core from) work) made ⌝ }
 {
     Advanced {
         search: Search {
             phase: phase,
             advances: advances,
-            trail: trail,
-            blame: blame,
+            trail: Places {
+                lits: lits,
+                marks: marks,
+                value: value,
+                len: len,
+            },
+            blame: Blame {
+                flags: flags,
+                core: core,
+                from: from,
+            },
             work: work,
         },
         made: made,
@@ -113,13 +128,32 @@ pub fn run<'a>(
 {
     let mut phase = start.phase;
     let mut advances = start.advances;
-    let mut trail = start.trail;
-    let mut blame = start.blame;
+    let trail = start.trail;
+    let mut lits = trail.lits;
+    let mut marks = trail.marks;
+    let mut value = trail.value;
+    let mut len = trail.len;
+    let blame = start.blame;
+    let mut flags = blame.flags;
+    let mut core = blame.core;
+    let mut from = blame.from;
     let mut work = start.work;
     let mut made: u32 = 0;
     while made < budget {
         if !is_running(phase) {
-            return stopped(phase, advances, trail, blame, work, made);
+            return stopped(
+                phase,
+                advances,
+                lits,
+                marks,
+                value,
+                len,
+                flags,
+                core,
+                from,
+                work,
+                made,
+            );
         }
         let q = query::run_query(
             n,
@@ -137,26 +171,42 @@ pub fn run<'a>(
             headlists,
             tried,
             work,
-            trail,
-            blame,
+            &mut lits,
+            &mut marks,
+            &mut value,
+            &mut flags,
+            &mut core,
+            len,
+            from,
             budget - made,
         );
-        let r = q.ran;
-        made += r.made;
-        advances = counted(advances, r.made);
-        trail = r.trail;
-        blame = r.blame;
+        let s = q.steps;
+        made += s.made;
+        advances = counted(advances, s.made);
+        let r = s.turning;
+        len = r.len;
+        from = r.from;
         let turn = r.turn;
         if is_going(turn) {
-            return stopped(phase, advances, trail, blame, work, made);
+            return stopped(
+                phase,
+                advances,
+                lits,
+                marks,
+                value,
+                len,
+                flags,
+                core,
+                from,
+                work,
+                made,
+            );
         }
-        let value = trail.value;
-        let places = blame.core;
-        let core = blame::blamed(&places, blame.from);
         let tables = work.tables;
-        let recorded = finish::records(phase, turn, tables, core.len());
+        let blamed = blame::blamed(&core, from);
+        let recorded = finish::records(phase, turn, tables, blamed.len());
         if recorded {
-            work = finish::recorded(work, core);
+            work = finish::recorded(work, blamed);
         }
         let e = finish::finish(
             levels,
@@ -176,10 +226,27 @@ pub fn run<'a>(
         if e.opens {
             work = finish::begun(levels, priorities, literals, weights, entrycount, work);
         }
-        trail = search::trail::fresh();
-        blame = fresh_blame();
+        lits = [0; 1024];
+        marks = [0; 1024];
+        value = [0; 1025];
+        len = 0;
+        flags = [0; 4096];
+        core = [0; 4096];
+        from = 4096;
     }
-    stopped(phase, advances, trail, blame, work, made)
+    stopped(
+        phase,
+        advances,
+        lits,
+        marks,
+        value,
+        len,
+        flags,
+        core,
+        from,
+        work,
+        made,
+    )
 }
 
 // One advance. "An advance after the end does nothing and isn't counted."

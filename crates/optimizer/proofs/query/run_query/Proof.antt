@@ -3,30 +3,31 @@
 use mathlib.Core.Path.{sym, ap, _∙_, subst}
 use native.Mathlib.Omega.{arith}
 use borrow.Author.Needs.{needs}
+use Rattle.search.specs.Places.{places}
 use Rattle.cores.specs.Columns.{columns}
 use Rattle.cores.specs.Level.{under}
 use Rattle.cores.specs.Tables.{SoundTables, FilledColumns}
 use Rattle.cores.proofs.Unpacked.{filled-by, zeros-long, reach-literals, reach-cores, reach-indices, reach-weights, reach-ends, reach-members, same-cores, few-many, cut-long}
 use Rattle.optimizer.specs.Source.{source, levelTables}
-use Rattle.optimizer.specs.Turn.{QueryTables, turnsOf}
+use Rattle.optimizer.specs.Turn.{QueryTables, blameTables, turnsOf}
 use Rattle.optimizer.specs.Ready.{ReadyQuery, GoodBlame}
 use Rattle.optimizer.proofs.Fronts.{columns-query}
 use Rattle.optimizer.proofs.query.run_query.Statement.{statement}
 use Rattle.optimizer.proofs.query.run_query.Tie as tie
 
 -- what is known where the columns are unpacked
-sound : (c : tie.After-unpack) → SoundTables (c .before .before .before .before .before .before .before .before .before .before .before .before .before .args .w .tables)
-sound c = c .before .before .before .before .before .before .before .before .before .before .before .before .before .pre .1 .1 .1 .0
+sound : (c : tie.After-unpack) → SoundTables (c .before .before .before .before .before .before .before .before .before .before .before .before .before .before .args .w .tables)
+sound c = c .before .before .before .before .before .before .before .before .before .before .before .before .before .before .pre .1 .1 .1 .0
 
 filled : (c : tie.After-unpack)
-    → FilledColumns (c .before .before .before .before .before .before .before .before .before .before .before .before .before .args .w .tables) (columns (c .unpack .last .1 .1 .0) (c .unpack .last .1 .1 .1 .0) (c .unpack .last .1 .1 .1 .1 .0) (c .unpack .last .1 .1 .1 .1 .1 .0))
+    → FilledColumns (c .before .before .before .before .before .before .before .before .before .before .before .before .before .before .args .w .tables) (columns (c .unpack .last .1 .1 .0) (c .unpack .last .1 .1 .1 .0) (c .unpack .last .1 .1 .1 .1 .0) (c .unpack .last .1 .1 .1 .1 .1 .0))
 filled c = filled-by (sound c .formed) zeros-long (c .unpack .ensures)
 
 unpack-requires : tie.Need-unpack-requires
 unpack-requires c κs = search needs
 
 held-requires : tie.Need-held-requires
-held-requires c κs = search needs
+held-requires c κs = let f = sound (c .before .before .before) .formed in omega (arith, f .cores-few, f .held-few)
 
 array-share-prefix-softs : tie.Need-array-share-prefix-softs
 array-share-prefix-softs c = reach-literals (sound (c .before .before .before .before .before)) (filled (c .before .before .before .before .before))
@@ -69,30 +70,33 @@ slice-aggregate-run-columns-6 c = cut-long _ _ (omega (arith, c .before .before 
 
 run-columns-requires : tie.Need-run-columns-requires
 run-columns-requires c κs =
-    let a = c .before .before .before .before .before .before .before .before .before .before .before .before .before .before .before .before .before .before .before .before .before .before .before .before in
-    let u = c .before .before .before .before .before .before .before .before .before .before .before in
-    let e = c .before .before .before .before .before .before .before .held .ensures in
+    let a = c .before .before .before .before .before .before .before .before .before .before .before .before .before .before .before .before .before .before .before .before .before .before .before .before .before .before .before .before .before .before in
+    let u = c .before .before .before .before .before .before .before .before .before .before .before .before .before .before .before .before in
+    let e = c .before .before .before .before .before .before .before .before .before .before .before .before .held .ensures in
     let S = source (a .args .n) (a .args .pool .now) (a .args .rows .now) (a .args .rulecount) (levelTables (a .args .levels .now) (a .args .priorities .now) (a .args .literals .now) (a .args .weights .now) (a .args .entrycount)) in
     let q = columns-query (a .args .w .tables) (columns (u .unpack .last .1 .1 .0) (u .unpack .last .1 .1 .1 .0) (u .unpack .last .1 .1 .1 .1 .0) (u .unpack .last .1 .1 .1 .1 .1 .0)) (filled u) (a .args .w .level) (a .args .w .stratum) (a .args .w .lowers) in
-    (rw e (subst (λ (x : QueryTables). ReadyQuery S x) (sym q) (a .pre .0)), (rw e (subst (λ (x : QueryTables). GoodBlame x (a .args .blame)) (sym q) (a .pre .1 .0)), (a .pre .1 .1 .0, ((few-many (sound u) (filled u), same-cores (sound u) (filled u)), a .pre .1 .1 .1 .1))))
+    (rw e (subst (λ (x : QueryTables). ReadyQuery S x) (sym q) (a .pre .0)), (rw e (subst (λ (x : QueryTables). GoodBlame x (blameTables (a .args .flags .now) (a .args .core .now) (a .args .from))) (sym q) (a .pre .1 .0)), (a .pre .1 .1 .0, ((few-many (sound u) (filled u), same-cores (sound u) (filled u)), a .pre .1 .1 .1 .1))))
 
 array-share-prefix-rests-2 : tie.Need-array-share-prefix-rests-2
-array-share-prefix-rests-2 c = reach-weights (sound (c .before .before .before .before .before .before .before .before .before .before .before .before)) (filled (c .before .before .before .before .before .before .before .before .before .before .before .before))
+array-share-prefix-rests-2 c = reach-weights (sound (c .before .before .before .before .before .before .before .before .before .before .before .before .before .before .before .before .before .before .before)) (filled (c .before .before .before .before .before .before .before .before .before .before .before .before .before .before .before .before .before .before .before))
 
 slice-aggregate-next-stratum : tie.Need-slice-aggregate-next-stratum
-slice-aggregate-next-stratum c = cut-long _ _ (reach-weights (sound (c .before .before .before .before .before .before .before .before .before .before .before .before .before)) (filled (c .before .before .before .before .before .before .before .before .before .before .before .before .before)))
+slice-aggregate-next-stratum c = cut-long _ _ (reach-weights (sound (c .before .before .before .before .before .before .before .before .before .before .before .before .before .before .before .before .before .before .before .before)) (filled (c .before .before .before .before .before .before .before .before .before .before .before .before .before .before .before .before .before .before .before .before)))
 
 next-stratum-requires : tie.Need-next-stratum-requires
 next-stratum-requires c κs = search needs
 
+same-length : tie.Need-same-length
+same-length c = search needs
+
 returns : tie.Need-returns
 returns c =
-    let a = c .before .before .before .before .before .before .before .before .before .before .before .before .before .before .before .before .before .before .before .before .before .before .before .before .before .before .before in
-    let u = c .before .before .before .before .before .before .before .before .before .before .before .before .before .before in
-    let e = c .before .before .before .before .before .before .before .before .before .before .held .ensures in
+    let a = c .before .before .before .before .before .before .before .before .before .before .before .before .before .before .before .before .before .before .before .before .before .before .before .before .before .before .before .before .before .before .before .before .before .before .before in
+    let u = c .before .before .before .before .before .before .before .before .before .before .before .before .before .before .before .before .before .before .before .before .before in
+    let e = c .before .before .before .before .before .before .before .before .before .before .before .before .before .before .before .before .before .held .ensures in
     let S = source (a .args .n) (a .args .pool .now) (a .args .rows .now) (a .args .rulecount) (levelTables (a .args .levels .now) (a .args .priorities .now) (a .args .literals .now) (a .args .weights .now) (a .args .entrycount)) in
     let q = columns-query (a .args .w .tables) (columns (u .unpack .last .1 .1 .0) (u .unpack .last .1 .1 .1 .0) (u .unpack .last .1 .1 .1 .1 .0) (u .unpack .last .1 .1 .1 .1 .1 .0)) (filled u) (a .args .w .level) (a .args .w .stratum) (a .args .w .lowers) in
-    ((rw e at (c .before .before .run-columns .ensures)) ∙ ap (λ (x : QueryTables). turnsOf S x (a .args .budget) (a .args .trail) (a .args .blame)) q, c .next-stratum .ensures ∙ ap (under (a .args .w .stratum)) (filled u .weights))
+    ((rw e at (c .before .before .before .before .run-columns .ensures)) ∙ ap (λ (x : QueryTables). turnsOf S x (a .args .budget) (places (a .args .lits .now) (a .args .marks .now) (a .args .value .now) (a .args .len)) (blameTables (a .args .flags .now) (a .args .core .now) (a .args .from))) q, c .next-stratum .ensures ∙ ap (under (a .args .w .stratum)) (filled u .weights))
 
 pub run-query-spec : {M : Type 1} → statement M
 run-query-spec =
@@ -117,4 +121,5 @@ run-query-spec =
     array-share-prefix-rests-2
     slice-aggregate-next-stratum
     next-stratum-requires
+    same-length
     returns)
