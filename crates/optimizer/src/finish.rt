@@ -339,7 +339,7 @@ pub fn records(phase: Phase, turn: Turn, t: LevelTables, n: usize) -> bool
 {
     if asks_core(phase, turn) {
         let ends = t.ends;
-        return recording::has_room(t.count, recording::held(ends, t.cores), n);
+        return recording::has_room(t.count, cores::table::at(&ends, t.cores), n);
     }
     false
 }

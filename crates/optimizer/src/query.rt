@@ -3,7 +3,7 @@ use crate::state::Work;
 use crate::turn;
 use crate::turn::Steps;
 use cores::query;
-use cores::recording;
+use cores::table;
 use indexing::fill;
 ghost use mathlib.Core.Path.{_≡_};
 ghost use Prim.Native.Nat.{_≤_, _<_};
@@ -232,7 +232,7 @@ pub fn run_query<'a>(
     let ends = t.ends;
     let members = t.members;
     let k = t.cores;
-    let held = recording::held(ends, k);
+    let held = table::at(&ends, k);
     let steps = run_columns(
         n,
         pool,

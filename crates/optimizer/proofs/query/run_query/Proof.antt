@@ -26,62 +26,65 @@ filled c = filled-by (sound c .formed) zeros-long (c .unpack .ensures)
 unpack-requires : tie.Need-unpack-requires
 unpack-requires c κs = search needs
 
-held-requires : tie.Need-held-requires
-held-requires c κs = let f = sound (c .before .before .before) .formed in omega (arith, f .cores-few, f .held-few)
+slice-aggregate-at : tie.Need-slice-aggregate-at
+slice-aggregate-at c = sym (sound (c .before .before .before .before) .formed .ends-len)
+
+at-requires : tie.Need-at-requires
+at-requires c κs = let f = sound (c .before .before .before .before) .formed in omega (arith, f .cores-few, f .held-few, f .ends-len)
 
 array-share-prefix-softs : tie.Need-array-share-prefix-softs
-array-share-prefix-softs c = reach-literals (sound (c .before .before .before .before .before)) (filled (c .before .before .before .before .before))
+array-share-prefix-softs c = reach-literals (sound (c .before .before .before .before .before .before)) (filled (c .before .before .before .before .before .before))
 
 slice-aggregate-run-columns : tie.Need-slice-aggregate-run-columns
-slice-aggregate-run-columns c = cut-long _ _ (reach-literals (sound (c .before .before .before .before .before .before)) (filled (c .before .before .before .before .before .before)))
+slice-aggregate-run-columns c = cut-long _ _ (reach-literals (sound (c .before .before .before .before .before .before .before)) (filled (c .before .before .before .before .before .before .before)))
 
 array-share-prefix-cores : tie.Need-array-share-prefix-cores
-array-share-prefix-cores c = reach-cores (sound (c .before .before .before .before .before .before)) (filled (c .before .before .before .before .before .before))
+array-share-prefix-cores c = reach-cores (sound (c .before .before .before .before .before .before .before)) (filled (c .before .before .before .before .before .before .before))
 
 slice-aggregate-run-columns-2 : tie.Need-slice-aggregate-run-columns-2
-slice-aggregate-run-columns-2 c = cut-long _ _ (reach-cores (sound (c .before .before .before .before .before .before .before)) (filled (c .before .before .before .before .before .before .before)))
+slice-aggregate-run-columns-2 c = cut-long _ _ (reach-cores (sound (c .before .before .before .before .before .before .before .before)) (filled (c .before .before .before .before .before .before .before .before)))
 
 array-share-prefix-indices : tie.Need-array-share-prefix-indices
-array-share-prefix-indices c = reach-indices (sound (c .before .before .before .before .before .before .before)) (filled (c .before .before .before .before .before .before .before))
+array-share-prefix-indices c = reach-indices (sound (c .before .before .before .before .before .before .before .before)) (filled (c .before .before .before .before .before .before .before .before))
 
 slice-aggregate-run-columns-3 : tie.Need-slice-aggregate-run-columns-3
-slice-aggregate-run-columns-3 c = cut-long _ _ (reach-indices (sound (c .before .before .before .before .before .before .before .before)) (filled (c .before .before .before .before .before .before .before .before)))
+slice-aggregate-run-columns-3 c = cut-long _ _ (reach-indices (sound (c .before .before .before .before .before .before .before .before .before)) (filled (c .before .before .before .before .before .before .before .before .before)))
 
 array-share-prefix-rests : tie.Need-array-share-prefix-rests
-array-share-prefix-rests c = reach-weights (sound (c .before .before .before .before .before .before .before .before)) (filled (c .before .before .before .before .before .before .before .before))
+array-share-prefix-rests c = reach-weights (sound (c .before .before .before .before .before .before .before .before .before)) (filled (c .before .before .before .before .before .before .before .before .before))
 
 slice-aggregate-run-columns-4 : tie.Need-slice-aggregate-run-columns-4
-slice-aggregate-run-columns-4 c = cut-long _ _ (reach-weights (sound (c .before .before .before .before .before .before .before .before .before)) (filled (c .before .before .before .before .before .before .before .before .before)))
+slice-aggregate-run-columns-4 c = cut-long _ _ (reach-weights (sound (c .before .before .before .before .before .before .before .before .before .before)) (filled (c .before .before .before .before .before .before .before .before .before .before)))
 
 add-ends : tie.Need-add-ends
-add-ends c = search (sound (c .before .before .before .before .before .before .before .before .before) .formed, needs)
+add-ends c = search (sound (c .before .before .before .before .before .before .before .before .before .before) .formed, needs)
 
 array-share-prefix-ends : tie.Need-array-share-prefix-ends
-array-share-prefix-ends c = search (sound (c .before .before .before .before .before .before .before .before .before) .formed, needs)
+array-share-prefix-ends c = search (sound (c .before .before .before .before .before .before .before .before .before .before) .formed, needs)
 
 slice-aggregate-run-columns-5 : tie.Need-slice-aggregate-run-columns-5
-slice-aggregate-run-columns-5 c = cut-long _ _ (reach-ends (sound (c .before .before .before .before .before .before .before .before .before .before)) (filled (c .before .before .before .before .before .before .before .before .before .before)))
+slice-aggregate-run-columns-5 c = cut-long _ _ (reach-ends (sound (c .before .before .before .before .before .before .before .before .before .before .before)) (filled (c .before .before .before .before .before .before .before .before .before .before .before)))
 
 array-share-prefix-members : tie.Need-array-share-prefix-members
-array-share-prefix-members c = search (sound (c .before .before .before .before .before .before .before .before .before .before) .formed, needs)
+array-share-prefix-members c = search (sound (c .before .before .before .before .before .before .before .before .before .before .before) .formed, needs)
 
 slice-aggregate-run-columns-6 : tie.Need-slice-aggregate-run-columns-6
-slice-aggregate-run-columns-6 c = cut-long _ _ (omega (arith, c .before .before .before .before .before .before .before .held .ensures, reach-members (sound (c .before .before .before .before .before .before .before .before .before .before .before)) (filled (c .before .before .before .before .before .before .before .before .before .before .before))))
+slice-aggregate-run-columns-6 c = cut-long _ _ (omega (arith, c .before .before .before .before .before .before .before .at .ensures, reach-members (sound (c .before .before .before .before .before .before .before .before .before .before .before .before)) (filled (c .before .before .before .before .before .before .before .before .before .before .before .before))))
 
 run-columns-requires : tie.Need-run-columns-requires
 run-columns-requires c κs =
-    let a = c .before .before .before .before .before .before .before .before .before .before .before .before .before .before .before .before .before .before .before .before .before .before .before .before .before .before .before .before .before .before in
-    let u = c .before .before .before .before .before .before .before .before .before .before .before .before .before .before .before .before in
-    let e = c .before .before .before .before .before .before .before .before .before .before .before .before .held .ensures in
+    let a = c .before .before .before .before .before .before .before .before .before .before .before .before .before .before .before .before .before .before .before .before .before .before .before .before .before .before .before .before .before .before .before in
+    let u = c .before .before .before .before .before .before .before .before .before .before .before .before .before .before .before .before .before in
+    let e = c .before .before .before .before .before .before .before .before .before .before .before .before .at .ensures in
     let S = source (a .args .n) (a .args .pool .now) (a .args .rows .now) (a .args .rulecount) (levelTables (a .args .levels .now) (a .args .priorities .now) (a .args .literals .now) (a .args .weights .now) (a .args .entrycount)) in
     let q = columns-query (a .args .w .tables) (columns (u .unpack .last .1 .1 .0) (u .unpack .last .1 .1 .1 .0) (u .unpack .last .1 .1 .1 .1 .0) (u .unpack .last .1 .1 .1 .1 .1 .0)) (filled u) (a .args .w .level) (a .args .w .stratum) (a .args .w .lowers) in
     (rw e (subst (λ (x : QueryTables). ReadyQuery S x) (sym q) (a .pre .0)), (rw e (subst (λ (x : QueryTables). GoodBlame x (blameTables (a .args .flags .now) (a .args .core .now) (a .args .from))) (sym q) (a .pre .1 .0)), (a .pre .1 .1 .0, ((few-many (sound u) (filled u), same-cores (sound u) (filled u)), a .pre .1 .1 .1 .1))))
 
 array-share-prefix-rests-2 : tie.Need-array-share-prefix-rests-2
-array-share-prefix-rests-2 c = reach-weights (sound (c .before .before .before .before .before .before .before .before .before .before .before .before .before .before .before .before .before .before .before)) (filled (c .before .before .before .before .before .before .before .before .before .before .before .before .before .before .before .before .before .before .before))
+array-share-prefix-rests-2 c = reach-weights (sound (c .before .before .before .before .before .before .before .before .before .before .before .before .before .before .before .before .before .before .before .before)) (filled (c .before .before .before .before .before .before .before .before .before .before .before .before .before .before .before .before .before .before .before .before))
 
 slice-aggregate-next-stratum : tie.Need-slice-aggregate-next-stratum
-slice-aggregate-next-stratum c = cut-long _ _ (reach-weights (sound (c .before .before .before .before .before .before .before .before .before .before .before .before .before .before .before .before .before .before .before .before)) (filled (c .before .before .before .before .before .before .before .before .before .before .before .before .before .before .before .before .before .before .before .before)))
+slice-aggregate-next-stratum c = cut-long _ _ (reach-weights (sound (c .before .before .before .before .before .before .before .before .before .before .before .before .before .before .before .before .before .before .before .before .before)) (filled (c .before .before .before .before .before .before .before .before .before .before .before .before .before .before .before .before .before .before .before .before .before)))
 
 next-stratum-requires : tie.Need-next-stratum-requires
 next-stratum-requires c κs = search needs
@@ -91,9 +94,9 @@ same-length c = search needs
 
 returns : tie.Need-returns
 returns c =
-    let a = c .before .before .before .before .before .before .before .before .before .before .before .before .before .before .before .before .before .before .before .before .before .before .before .before .before .before .before .before .before .before .before .before .before .before .before in
-    let u = c .before .before .before .before .before .before .before .before .before .before .before .before .before .before .before .before .before .before .before .before .before in
-    let e = c .before .before .before .before .before .before .before .before .before .before .before .before .before .before .before .before .before .held .ensures in
+    let a = c .before .before .before .before .before .before .before .before .before .before .before .before .before .before .before .before .before .before .before .before .before .before .before .before .before .before .before .before .before .before .before .before .before .before .before .before in
+    let u = c .before .before .before .before .before .before .before .before .before .before .before .before .before .before .before .before .before .before .before .before .before .before in
+    let e = c .before .before .before .before .before .before .before .before .before .before .before .before .before .before .before .before .before .at .ensures in
     let S = source (a .args .n) (a .args .pool .now) (a .args .rows .now) (a .args .rulecount) (levelTables (a .args .levels .now) (a .args .priorities .now) (a .args .literals .now) (a .args .weights .now) (a .args .entrycount)) in
     let q = columns-query (a .args .w .tables) (columns (u .unpack .last .1 .1 .0) (u .unpack .last .1 .1 .1 .0) (u .unpack .last .1 .1 .1 .1 .0) (u .unpack .last .1 .1 .1 .1 .1 .0)) (filled u) (a .args .w .level) (a .args .w .stratum) (a .args .w .lowers) in
     ((rw e at (c .before .before .before .before .run-columns .ensures)) ∙ ap (λ (x : QueryTables). turnsOf S x (a .args .budget) (places (a .args .lits .now) (a .args .marks .now) (a .args .value .now) (a .args .len)) (blameTables (a .args .flags .now) (a .args .core .now) (a .args .from))) q, c .next-stratum .ensures ∙ ap (under (a .args .w .stratum)) (filled u .weights))
@@ -103,7 +106,8 @@ run-query-spec =
     tie.close
     (tie.spec
     unpack-requires
-    held-requires
+    slice-aggregate-at
+    at-requires
     array-share-prefix-softs
     slice-aggregate-run-columns
     array-share-prefix-cores
