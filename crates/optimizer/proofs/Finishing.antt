@@ -30,7 +30,7 @@ use Rattle.optimizer.specs.declared.state.Turn.{Turn}
 use Rattle.optimizer.specs.declared.state.Turn.the-variants.{Going, Without, Model}
 use Rattle.optimizer.specs.State.{work}
 use Rattle.optimizer.specs.declared.finish.Ending.{Ending}
-use Rattle.optimizer.specs.Finish.{nextFrom, Placed, placed, begunAt, openAt, openFrom, settleOf, costsOf, withBest, betterOf, fallen, fallenTo, withTables, triedWork, finishFirst, finishOf, asksCore, recordsOf, recordedWork, finishedLevel, finishedOf, ending, standingOf, closed, Ends}
+use Rattle.optimizer.specs.Finish.{nextFrom, Placed, placed, begunAt, openAt, openFrom, settleOf, costsOf, withBest, betterOf, fallen, fallenTo, withTables, triedWork, finishFirst, finishOf, asksCore, recordsOf, recordedWork, finishedLevel, finishedOf, ending, standingOf, openedIf, Ends}
 
 -- ---- the next level that is not settled at 0
 
@@ -185,8 +185,8 @@ model-is L w v {s} q {b} f {u} g {e} a = record { is = same ∙ there .is; withi
     there : Ends L (fallen (betterOf L w v)) e (settleOf L (fallen (betterOf L w v)))
     there = subst (λ (y : Work). Ends L y e (settleOf L y)) is-fallen a
 
-    same : closed L (e .phase) (e .opens) (standingOf w e) ≡ closed L (e .phase) (e .opens) (standingOf (fallen (betterOf L w v)) e)
-    same = better-keeps (λ (y : Work). closed L (e .phase) (e .opens) (standingOf w e) ≡ closed L (e .phase) (e .opens) (standingOf y e)) L w v refl refl
+    same : openedIf L (e .phase) (e .opens) (standingOf w e) ≡ openedIf L (e .phase) (e .opens) (standingOf (fallen (betterOf L w v)) e)
+    same = better-keeps (λ (y : Work). openedIf L (e .phase) (e .opens) (standingOf w e) ≡ openedIf L (e .phase) (e .opens) (standingOf y e)) L w v refl refl
 
 module _ (L : Levels) (w : Work) (v : List ℕ) (b : Bool) {x : Turn} {e : Ending} where
   pub level-going : x ≡ Going → e ≡ ending Level false w → Ends L w e (finishedLevel L b w v x)

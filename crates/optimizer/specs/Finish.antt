@@ -139,10 +139,10 @@ abbrev pub standingOf : Work → Ending → Work
 standingOf w e = work (e .level) (w .tables) (e .stratum) (w .lowers) (e .uppers) (e .best)
 
 -- the level is opened, if it is to be
-abbrev pub closed : Levels → Phase → Bool → Work → Placed
-closed L p b w = placed p (pick b (begunAt L w (w .level)) w)
+abbrev pub openedIf : Levels → Phase → Bool → Work → Placed
+openedIf L p b w = placed p (pick b (begunAt L w (w .level)) w)
 
 -- the figures e over w say what x is
 pub record Ends (L : Levels) (w : Work) (e : Ending) (x : Placed) : Type 0 where
-  pub is : closed L (e .phase) (e .opens) (standingOf w e) ≡ x
+  pub is : openedIf L (e .phase) (e .opens) (standingOf w e) ≡ x
   pub within : e .opens ≡ true → e .level < many L

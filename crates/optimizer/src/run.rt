@@ -5,8 +5,8 @@ use crate::query;
 use crate::state::Blame;
 use crate::state::Phase;
 use crate::state::Search;
-use crate::state::Turn;
 use crate::state::Work;
+use crate::turn;
 use search::trail::Places;
 ghost use mathlib.Core.Path.{_≡_};
 ghost use Rattle.optimizer.specs.Source.{levelTables, source, Prepared};
@@ -53,16 +53,6 @@ fn is_running(p: Phase) -> bool
         Phase::Optimum => false,
         Phase::Incoherent => false,
         Phase::Full => false,
-    }
-}
-
-fn is_going(t: Turn) -> bool
-    ensures { λ r. ⌜ r ≡ isGoing t ⌝ }
-{
-    match t {
-        Turn::Going => true,
-        Turn::Without => false,
-        Turn::Model => false,
     }
 }
 
@@ -187,7 +177,7 @@ pub fn run<'a>(
         len = r.len;
         from = r.from;
         let turn = r.turn;
-        if is_going(turn) {
+        if turn::is_going(r) {
             return stopped(
                 phase,
                 advances,

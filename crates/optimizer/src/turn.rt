@@ -414,7 +414,8 @@ pub fn turns<'a>(
     }
 }
 
-fn is_going(r: Turning) -> bool
+// Whether the query goes on.
+pub fn is_going(r: Turning) -> bool
     ensures { λ b. ⌜ b ≡ isGoing (r .turn) ⌝ }
 {
     let t = r.turn;
