@@ -6,7 +6,9 @@ use mathlib.Core.Logic.{_⊎_, inl, inr}
 use Prim.Native.Nat.{ℕ, zero, suc, _+_, _≤_, _<_}
 use native.Mathlib.Omega.{arith}
 use lib.Dec.{T, ltb, ltb→lt, lt→ltb, nltb→le}
+use lib.IntN.{ℤ, pos, negsuc}
 use lib.ListN.{length}
+use lib.Signed.{ltZ}
 use mir.Facts.{or-yes, and-yes, yes-and, T-not, not-T}
 use Rattle.asp.specs.Cost.{cheaper, NoDearer}
 use Rattle.asp.proofs.Stability.{yes-or-left, yes-or-right}
@@ -26,6 +28,35 @@ ltb-linear = record {
   where
     go : (x y : ℕ) → (x < y → ⊥) → (y < x → ⊥) → x ≡ y
     go x y f g = omega arith
+
+-- signed figures too
+pub ltZ-linear : Linear ltZ
+ltZ-linear = record { irreflexive = irreflexive; transitive = transitive; connected = connected }
+  where
+    irreflexive : (x : ℤ) → T (ltZ x x) → ⊥
+    irreflexive (pos x) t = omega (arith, ltb→lt x x t)
+    irreflexive (negsuc x) t = omega (arith, ltb→lt x x t)
+
+    transitive : (x y z : ℤ) → T (ltZ x y) → T (ltZ y z) → T (ltZ x z)
+    transitive (pos x) (pos y) (pos z) s t = lt→ltb x z (omega (arith, ltb→lt x y s, ltb→lt y z t))
+    transitive (pos x) (pos y) (negsuc z) s t = t
+    transitive (pos x) (negsuc y) z s t = absurd s
+    transitive (negsuc x) (pos y) (pos z) s t = tt
+    transitive (negsuc x) (pos y) (negsuc z) s t = absurd t
+    transitive (negsuc x) (negsuc y) (pos z) s t = tt
+    transitive (negsuc x) (negsuc y) (negsuc z) s t = lt→ltb z x (omega (arith, ltb→lt y x s, ltb→lt z y t))
+
+    equal : (x y : ℕ) → (T (ltb x y) → ⊥) → (T (ltb y x) → ⊥) → x ≡ y
+    equal x y f g = go (λ h. f (lt→ltb x y h)) (λ h. g (lt→ltb y x h))
+      where
+        go : (x < y → ⊥) → (y < x → ⊥) → x ≡ y
+        go f g = omega arith
+
+    connected : (x y : ℤ) → (T (ltZ x y) → ⊥) → (T (ltZ y x) → ⊥) → x ≡ y
+    connected (pos x) (pos y) f g = ap pos (equal x y f g)
+    connected (pos x) (negsuc y) f g = absurd (g tt)
+    connected (negsuc x) (pos y) f g = absurd (f tt)
+    connected (negsuc x) (negsuc y) f g = ap negsuc (equal x y g f)
 
 -- a Boolean is yes or no
 yes-or-no : (b : Bool) → T b ⊎ (T b → ⊥)

@@ -6,67 +6,102 @@ use Prim.Native.Nat.{ℕ, zero, suc, _+_, _-_, _*_, _≤_, _<_}
 use native.Mathlib.Nat.{sub-zero, zero-add}
 use native.Mathlib.Numerals.{add-one}
 use native.Mathlib.Omega.{arith}
-use lib.Dec.{ltb}
-use lib.IntN.{ℤ, pos, natAbs}
+use lib.IntN.{ℤ, pos, natAbs, _+ℤ_, +ℤ-assoc, +ℤ-idl, +ℤ-idr}
+use lib.Signed.{ltZ}
 use lib.ListN.{length, getD, take, drop, set, length-set, length-map, length-drop, length-append}
 use lib.Seq.{drop-cons, set-at}
-use borrow.Author.Tests.{lt-ltb, le-ltb}
+use mir.Syntax.{w32, w64}
+use mir.Val.{SFits, toZ, ofZ}
+use mir.Facts.{toZ-ofZ}
 use Rattle.asp.specs.Sets.{Set, pick}
-use Rattle.asp.specs.Literal.{sameℤ}
+use Rattle.asp.specs.Literal.{sameℤ, isNegative}
 use Rattle.asp.specs.Program.{Entry, Literal, All, LiteralIn}
 use Rattle.asp.specs.Stable.{holdsIn, allHold}
-use Rattle.asp.specs.Cost.{cost, entryCost, level, total, cheaper}
+use Rattle.asp.specs.Cost.{level, totalℤ, cheaper}
 use Rattle.asp.specs.Tables.{span, literalsAt, rowAt, conditionAt, entryAt, entriesOf}
-use Rattle.asp.specs.Paying.{paid, EntriesFormed, SymbolFormed}
+use Rattle.asp.specs.Paying.{onLevel, paid, taken, EntriesFormed, SymbolFormed}
+use Rattle.asp.proofs.Signed.{sum-size}
 use Rattle.asp.proofs.Spans.{span-more, span-none, span-snoc, span-at, length-span}
 
--- ---- one entry
+-- ---- one entry. What is read stands as its bits read back.
 
-module _ (M : Set) (levels : List ℤ) (l : ℕ) (priorities literals : List ℤ) (weights : List ℕ) (i : ℕ) where
-  pub paid-here : {b h : Bool} {w : ℕ} → b ≡ sameℤ (getD levels l (pos 0)) (getD priorities i (pos 0)) → b ≡ true → h ≡ holdsIn M M (getD literals i (pos 0)) → h ≡ true → w ≡ getD weights i 0
-      → w ≡ paid M (getD levels l (pos 0)) (entryAt priorities literals weights i)
-  paid-here e q f r w = rw (← e, q, ← f, r) w
+-- a weight z that is read as v, as the figure w
+weight-is : {z v w : ℤ} → SFits w32 v → SFits w64 w → v ≡ z → (w ≡ toZ w32 (ofZ w32 v)) × (natAbs w ≤ 2147483648) → toZ w64 (ofZ w64 w) ≡ z
+weight-is f g e h = toZ-ofZ g ∙ h .0 ∙ toZ-ofZ f ∙ e
+
+pub weight-small : {v w : ℤ} → SFits w64 w → (w ≡ v) × (natAbs w ≤ 2147483648) → natAbs (toZ w64 (ofZ w64 w)) ≤ 2147483648
+weight-small g h = rw (toZ-ofZ g) (h .1)
+
+module _ (M : Set) (levels : List ℤ) (l : ℕ) (priorities literals weights : List ℤ) (i : ℕ) where
+  pub paid-here : {b h : Bool} → b ≡ sameℤ (getD levels l (pos 0)) (getD priorities i (pos 0)) → b ≡ true → h ≡ holdsIn M M (getD literals i (pos 0)) → h ≡ true
+      → {v w : ℤ} → SFits w32 v → SFits w64 w → v ≡ getD weights i (pos 0) → (w ≡ toZ w32 (ofZ w32 v)) × (natAbs w ≤ 2147483648)
+      → toZ w64 (ofZ w64 w) ≡ paid M (getD levels l (pos 0)) (entryAt priorities literals weights i)
+  paid-here e q f r v w z k = rw (← e, q, ← f, r) (weight-is v w z k)
 
   pub paid-unheld : {b h : Bool} → b ≡ sameℤ (getD levels l (pos 0)) (getD priorities i (pos 0)) → b ≡ true → h ≡ holdsIn M M (getD literals i (pos 0)) → h ≡ false
-      → 0 ≡ paid M (getD levels l (pos 0)) (entryAt priorities literals weights i)
+      → pos 0 ≡ paid M (getD levels l (pos 0)) (entryAt priorities literals weights i)
   paid-unheld e q f r = rw (← e, q, ← f, r)
 
-  pub paid-elsewhere : {b : Bool} → b ≡ sameℤ (getD levels l (pos 0)) (getD priorities i (pos 0)) → b ≡ false → 0 ≡ paid M (getD levels l (pos 0)) (entryAt priorities literals weights i)
-  paid-elsewhere e q = rw (← e, q)
+module _ (f : Entry → ℤ) (levels : List ℤ) (l : ℕ) (priorities literals weights : List ℤ) (i : ℕ) where
+  pub elsewhere : {b : Bool} → b ≡ sameℤ (getD levels l (pos 0)) (getD priorities i (pos 0)) → b ≡ false
+      → pos 0 ≡ onLevel f (getD levels l (pos 0)) (entryAt priorities literals weights i)
+  elsewhere e q = rw (← e, q)
 
--- ---- the loop over the entries
+module _ (levels : List ℤ) (l : ℕ) (priorities literals weights : List ℤ) (i : ℕ) where
+  pub taken-here : {b n : Bool} → b ≡ sameℤ (getD levels l (pos 0)) (getD priorities i (pos 0)) → b ≡ true
+      → {v w : ℤ} → SFits w32 v → SFits w64 w → v ≡ getD weights i (pos 0) → n ≡ isNegative (toZ w32 (ofZ w32 v)) → n ≡ true → (w ≡ toZ w32 (ofZ w32 v)) × (natAbs w ≤ 2147483648)
+      → toZ w64 (ofZ w64 w) ≡ taken (getD levels l (pos 0)) (entryAt priorities literals weights i)
+  taken-here e q v w z f r k = rw (← e, q, sym (rw (toZ-ofZ v, z) at f) ∙ r) (weight-is v w z k)
 
-cost-more : (M : Set) (p : ℤ) (e : Entry) (es : List Entry) → cost M (level p (e ∷ es)) ≡ paid M p e + cost M (level p es)
-unfolding level total
-cost-more M p e es = go (sameℤ p (e .priority))
+  pub taken-none : {b n : Bool} → b ≡ sameℤ (getD levels l (pos 0)) (getD priorities i (pos 0)) → b ≡ true
+      → {v : ℤ} → SFits w32 v → v ≡ getD weights i (pos 0) → n ≡ isNegative (toZ w32 (ofZ w32 v)) → n ≡ false
+      → pos 0 ≡ taken (getD levels l (pos 0)) (entryAt priorities literals weights i)
+  taken-none e q v z f r = rw (← e, q, sym (rw (toZ-ofZ v, z) at f) ∙ r)
+
+-- ---- the loop over the entries: a sum of what f says of each on the level
+
+level-more : (f : Entry → ℤ) (p : ℤ) (e : Entry) (es : List Entry) → totalℤ (map f (level p (e ∷ es))) ≡ onLevel f p e +ℤ totalℤ (map f (level p es))
+unfolding level totalℤ
+level-more f p e es = go (sameℤ p (e .priority))
   where
-    go : (b : Bool) → cost M (pick b (e ∷ level p es) (level p es)) ≡ pick b (entryCost M e) 0 + cost M (level p es)
+    go : (b : Bool) → totalℤ (map f (pick b (e ∷ level p es) (level p es))) ≡ pick b (f e) (pos 0) +ℤ totalℤ (map f (level p es))
     go true = refl
-    go false = sym (zero-add (cost M (level p es)))
+    go false = sym (+ℤ-idl (totalℤ (map f (level p es))))
 
-pub record Summing (M : Set) (p : ℤ) (priorities literals : List ℤ) (weights : List ℕ) (count sum i : ℕ) : Type 0 where
+pub record Summing (f : Entry → ℤ) (p : ℤ) (priorities literals weights : List ℤ) (count : ℕ) (sum : ℤ) (i : ℕ) : Type 0 where
   pub below : i ≤ count
-  pub small : sum ≤ i * 4294967296
-  pub rest : sum + cost M (level p (span (entryAt priorities literals weights) i (count - i))) ≡ cost M (level p (entriesOf priorities literals weights count))
+  pub small : natAbs sum ≤ i * 2147483648
+  pub rest : sum +ℤ totalℤ (map f (level p (span (entryAt priorities literals weights) i (count - i)))) ≡ totalℤ (map f (level p (entriesOf priorities literals weights count)))
 
-pub summing-start : (M : Set) (p : ℤ) (priorities literals : List ℤ) (weights : List ℕ) (count : ℕ) → Summing M p priorities literals weights count 0 0
-summing-start M p priorities literals weights count = record { below = omega arith; small = omega arith; rest = rw (sub-zero, zero-add) }
+pub summing-start : (f : Entry → ℤ) (p : ℤ) (priorities literals weights : List ℤ) (count : ℕ) → Summing f p priorities literals weights count (pos 0) 0
+summing-start f p priorities literals weights count = record { below = omega arith; small = omega arith; rest = rw (sub-zero, +ℤ-idl) }
 
-module _ {M : Set} {p : ℤ} {priorities literals : List ℤ} {weights : List ℕ} {count sum i : ℕ} (s : Summing M p priorities literals weights count sum i) where
-  pub summing-next : i < count → {w : ℕ} → w ≡ paid M p (entryAt priorities literals weights i) → w < 4294967296 → Summing M p priorities literals weights count (sum + w) (i + 1)
+module _ {f : Entry → ℤ} {p : ℤ} {priorities literals weights : List ℤ} {count : ℕ} {sum : ℤ} {i : ℕ} (s : Summing f p priorities literals weights count sum i) where
+  -- the sum so far is small enough to add to
+  pub summing-room : count ≤ 65536 → natAbs sum ≤ 1000000000000000000
+  summing-room h = omega (arith, s .small, s .below)
+
+  pub summing-next : i < count → {w : ℤ} → w ≡ onLevel f p (entryAt priorities literals weights i) → natAbs w ≤ 2147483648 → Summing f p priorities literals weights count (sum +ℤ w) (i + 1)
   summing-next h {w} e b = record {
     below = omega arith;
-    small = omega (arith, s .small);
+    small = omega (arith, s .small, sum-size sum w);
     rest =
-        let r = rw (span-more (entryAt priorities literals weights) i count h, cost-more M p (entryAt priorities literals weights i) (span (entryAt priorities literals weights) (i + 1) (count - (i + 1))), ← e) at (s .rest) in
-        omega (arith, r);
+        +ℤ-assoc sum w _ ∙ rw e (rw (span-more (entryAt priorities literals weights) i count h, level-more f p (entryAt priorities literals weights i) (span (entryAt priorities literals weights) (i + 1) (count - (i + 1)))) at (s .rest));
   }
 
-  pub summing-done : count ≤ i → sum ≡ cost M (level p (entriesOf priorities literals weights count))
-  unfolding level total
-  summing-done h = let r = rw (span-none (entryAt priorities literals weights) i count h) at (s .rest) in omega (arith, r)
+  -- as the code has it: bits that are added and kept
+  pub summing-added : i < count → {w r : ℤ} → SFits w64 w → SFits w64 r → (w ≡ onLevel f p (entryAt priorities literals weights i)) × (natAbs w ≤ 2147483648) → r ≡ sum +ℤ toZ w64 (ofZ w64 w)
+      → Summing f p priorities literals weights count (toZ w64 (ofZ w64 r)) (i + 1)
+  summing-added h v x e b = rw (toZ-ofZ x, b, toZ-ofZ v) (summing-next h (e .0) (e .1))
 
-pub entry-atom : {priorities literals : List ℤ} {weights : List ℕ} {count : ℕ} → EntriesFormed priorities literals weights count → (i : ℕ) → i < count → natAbs (getD literals i (pos 0)) ≤ 1024
+  pub summing-done : count ≤ i → sum ≡ totalℤ (map f (level p (entriesOf priorities literals weights count)))
+  unfolding level totalℤ
+  summing-done h = sym (+ℤ-idr sum) ∙ (rw (span-none (entryAt priorities literals weights) i count h) at (s .rest))
+
+pub summing-term : {w : ℤ} → SFits w64 w → natAbs w ≤ 2147483648 → natAbs (toZ w64 (ofZ w64 w)) ≤ 1000000000000000000
+summing-term {w} f h = rw (toZ-ofZ f) (omega arith)
+
+pub entry-atom : {priorities literals weights : List ℤ} {count : ℕ} → EntriesFormed priorities literals weights count → (i : ℕ) → i < count → natAbs (getD literals i (pos 0)) ≤ 1024
 entry-atom {priorities} {literals} {weights} {count} w i h = span-at (entryAt priorities literals weights) (λ (e : Entry). LiteralIn 1024 (e .literal)) 0 count (w .atoms) i (omega arith) (omega arith) .1
 
 -- ---- the loop over the levels
@@ -75,22 +110,22 @@ map-snoc : {A B : Type 0} (f : A → B) (xs : List A) (x : A) → map f (xs ++ (
 map-snoc f [] x = refl
 map-snoc {B = B} f (y ∷ xs) x = ap (λ (l : List B). f y ∷ l) (map-snoc f xs x)
 
-pub record Filling (f : ℤ → ℕ) (levels : List ℤ) (k : ℕ) (xs : List ℕ) (i : ℕ) (ys : List ℕ) : Type 0 where
+pub record Filling (f : ℤ → ℤ) (levels : List ℤ) (k : ℕ) (xs : List ℤ) (i : ℕ) (ys : List ℤ) : Type 0 where
   pub below : i ≤ k
   pub long : length ys ≡ 8
   pub filled : ys ≡ map f (literalsAt levels 0 i) ++ drop i xs
 
-pub filling-start : (f : ℤ → ℕ) (levels : List ℤ) (k : ℕ) {xs : List ℕ} → length xs ≡ 8 → Filling f levels k xs 0 xs
+pub filling-start : (f : ℤ → ℤ) (levels : List ℤ) (k : ℕ) {xs : List ℤ} → length xs ≡ 8 → Filling f levels k xs 0 xs
 unfolding span
 filling-start f levels k l = record { below = omega arith; long = l; filled = refl }
 
-pub filling-next : {f : ℤ → ℕ} {levels : List ℤ} {k : ℕ} {xs : List ℕ} {i : ℕ} {ys : List ℕ} → Filling f levels k xs i ys → length xs ≡ 8 → k ≤ 8 → i < k
-    → {v : ℕ} → v ≡ f (getD levels i (pos 0)) → Filling f levels k xs (i + 1) (set ys i v)
-filling-next {f} {levels} {k} {xs} {i} {ys} s l few h {v} e = record {
+pub filling-next : {f : ℤ → ℤ} {levels : List ℤ} {k : ℕ} {xs : List ℤ} {i : ℕ} {ys : List ℤ} → Filling f levels k xs i ys → length xs ≡ 8 → k ≤ 8 → i < k
+    → {v : ℤ} → SFits w64 v → v ≡ f (getD levels i (pos 0)) → Filling f levels k xs (i + 1) (set ys i (toZ w64 (ofZ w64 v)))
+filling-next {f} {levels} {k} {xs} {i} {ys} s l few h {v} b e = rw (toZ-ofZ b) (record {
   below = omega arith;
   long = length-set ys i v ∙ s .long;
-  filled = rw (s .filled, drop-cons xs i 0 (omega arith), add-one, last) (set-at (map f (literalsAt levels 0 i)) (getD xs i 0) (drop (suc i) xs) v i size ∙ ap (λ (z : ℕ). map f (literalsAt levels 0 i) ++ (z ∷ drop (suc i) xs)) e ∙ sym (append-assoc (map f (literalsAt levels 0 i)) (f (getD levels i (pos 0)) ∷ []) (drop (suc i) xs)));
-}
+  filled = rw (s .filled, drop-cons xs i (pos 0) (omega arith), add-one, last) (set-at (map f (literalsAt levels 0 i)) (getD xs i (pos 0)) (drop (suc i) xs) v i size ∙ ap (λ (z : ℤ). map f (literalsAt levels 0 i) ++ (z ∷ drop (suc i) xs)) e ∙ sym (append-assoc (map f (literalsAt levels 0 i)) (f (getD levels i (pos 0)) ∷ []) (drop (suc i) xs)));
+})
   where
     size : length (map f (literalsAt levels 0 i)) ≡ i
     size = length-map (literalsAt levels 0 i) f ∙ length-span (λ (j : ℕ). getD levels j (pos 0)) 0 i
@@ -98,41 +133,45 @@ filling-next {f} {levels} {k} {xs} {i} {ys} s l few h {v} e = record {
     last : map f (literalsAt levels 0 (suc i)) ≡ map f (literalsAt levels 0 i) ++ (f (getD levels i (pos 0)) ∷ [])
     last = ap (map f) (span-snoc (λ (j : ℕ). getD levels j (pos 0)) 0 i) ∙ map-snoc f (literalsAt levels 0 i) (getD levels (0 + i) (pos 0)) ∙ rw zero-add
 
-pub filling-done : {f : ℤ → ℕ} {levels : List ℤ} {k : ℕ} {xs : List ℕ} {i : ℕ} {ys : List ℕ} → Filling f levels k xs i ys → k ≤ i → ys ≡ map f (literalsAt levels 0 k) ++ drop k xs
+pub filling-done : {f : ℤ → ℤ} {levels : List ℤ} {k : ℕ} {xs : List ℤ} {i : ℕ} {ys : List ℤ} → Filling f levels k xs i ys → k ≤ i → ys ≡ map f (literalsAt levels 0 k) ++ drop k xs
 filling-done {k = k} {i = i} s h = let q : i ≡ k = omega (arith, s .below) in rw (← q) (s .filled)
 
 -- ---- the comparison of figures
 
-take-span : (xs : List ℕ) (i k : ℕ) → i + k ≤ length xs → span (λ (j : ℕ). getD xs j 0) i k ≡ take k (drop i xs)
+take-span : (xs : List ℤ) (i k : ℕ) → i + k ≤ length xs → span (λ (j : ℕ). getD xs j (pos 0)) i k ≡ take k (drop i xs)
 unfolding span
 take-span xs i zero h = refl
-take-span xs i (suc k) h = rw (drop-cons xs i 0 (omega arith)) (ap (λ (l : List ℕ). getD xs i 0 ∷ l) (take-span xs (i + 1) k (omega arith) ∙ rw add-one))
+take-span xs i (suc k) h = rw (drop-cons xs i (pos 0) (omega arith)) (ap (λ (l : List ℤ). getD xs i (pos 0) ∷ l) (take-span xs (i + 1) k (omega arith) ∙ rw add-one))
 
-pub record Comparing (xs ys : List ℕ) (k i : ℕ) : Type 0 where
-  pub rest : cheaper ltb (span (λ (j : ℕ). getD xs j 0) i (k - i)) (span (λ (j : ℕ). getD ys j 0) i (k - i)) ≡ cheaper ltb (take k xs) (take k ys)
+pub record Comparing (xs ys : List ℤ) (k i : ℕ) : Type 0 where
+  pub rest : cheaper ltZ (span (λ (j : ℕ). getD xs j (pos 0)) i (k - i)) (span (λ (j : ℕ). getD ys j (pos 0)) i (k - i)) ≡ cheaper ltZ (take k xs) (take k ys)
 
-pub comparing-start : {xs ys : List ℕ} {k : ℕ} → k ≤ length xs → k ≤ length ys → Comparing xs ys k 0
+pub comparing-start : {xs ys : List ℤ} {k : ℕ} → k ≤ length xs → k ≤ length ys → Comparing xs ys k 0
 comparing-start {xs} {ys} {k} h g = record { rest = rw (sub-zero, take-span xs 0 k (omega arith), take-span ys 0 k (omega arith)) }
 
-module _ {xs ys : List ℕ} {k i : ℕ} (c : Comparing xs ys k i) where
-  more : (zs : List ℕ) → i < k → span (λ (j : ℕ). getD zs j 0) i (k - i) ≡ getD zs i 0 ∷ span (λ (j : ℕ). getD zs j 0) (i + 1) (k - (i + 1))
-  more zs h = span-more (λ (j : ℕ). getD zs j 0) i k h
+module _ {xs ys : List ℤ} {k i : ℕ} (c : Comparing xs ys k i) where
+  more : (zs : List ℤ) → i < k → span (λ (j : ℕ). getD zs j (pos 0)) i (k - i) ≡ getD zs i (pos 0) ∷ span (λ (j : ℕ). getD zs j (pos 0)) (i + 1) (k - (i + 1))
+  more zs h = span-more (λ (j : ℕ). getD zs j (pos 0)) i k h
 
-  pub comparing-less : i < k → getD xs i 0 < getD ys i 0 → true ≡ cheaper ltb (take k xs) (take k ys)
-  unfolding cheaper
-  comparing-less h l = rw (more xs h, more ys h, lt-ltb (getD xs i 0) (getD ys i 0) l) at (c .rest)
+  -- the code compares what it has read, as bits read back
+  test : {a b x y : ℤ} → SFits w64 x → SFits w64 y → x ≡ a → y ≡ b → ltZ (toZ w64 (ofZ w64 x)) (toZ w64 (ofZ w64 y)) ≡ ltZ a b
+  test v w e f = rw (toZ-ofZ v, toZ-ofZ w, e, f)
 
-  pub comparing-more : i < k → getD ys i 0 ≤ getD xs i 0 → getD ys i 0 < getD xs i 0 → false ≡ cheaper ltb (take k xs) (take k ys)
+  pub comparing-less : i < k → {x y : ℤ} → SFits w64 x → SFits w64 y → x ≡ getD xs i (pos 0) → y ≡ getD ys i (pos 0) → {b : Bool} → b ≡ ltZ (toZ w64 (ofZ w64 x)) (toZ w64 (ofZ w64 y)) → b ≡ true → true ≡ cheaper ltZ (take k xs) (take k ys)
   unfolding cheaper
-  comparing-more h g l = rw (more xs h, more ys h, le-ltb (getD xs i 0) (getD ys i 0) g, lt-ltb (getD ys i 0) (getD xs i 0) l) at (c .rest)
+  comparing-less h v w e f l t = rw (more xs h, more ys h, sym (test v w e f) ∙ sym l ∙ t) at (c .rest)
 
-  pub comparing-next : i < k → getD ys i 0 ≤ getD xs i 0 → getD xs i 0 ≤ getD ys i 0 → Comparing xs ys k (i + 1)
+  pub comparing-more : i < k → {x y : ℤ} → SFits w64 x → SFits w64 y → x ≡ getD xs i (pos 0) → y ≡ getD ys i (pos 0) → {a b : Bool} → a ≡ ltZ (toZ w64 (ofZ w64 x)) (toZ w64 (ofZ w64 y)) → a ≡ false → b ≡ ltZ (toZ w64 (ofZ w64 y)) (toZ w64 (ofZ w64 x)) → b ≡ true → false ≡ cheaper ltZ (take k xs) (take k ys)
   unfolding cheaper
-  comparing-next h g l = record { rest = rw (more xs h, more ys h, le-ltb (getD xs i 0) (getD ys i 0) g, le-ltb (getD ys i 0) (getD xs i 0) l) at (c .rest) }
+  comparing-more h v w e f l t m u = rw (more xs h, more ys h, sym (test v w e f) ∙ sym l ∙ t, sym (test w v f e) ∙ sym m ∙ u) at (c .rest)
 
-  pub comparing-done : k ≤ i → false ≡ cheaper ltb (take k xs) (take k ys)
+  pub comparing-next : i < k → {x y : ℤ} → SFits w64 x → SFits w64 y → x ≡ getD xs i (pos 0) → y ≡ getD ys i (pos 0) → {a b : Bool} → a ≡ ltZ (toZ w64 (ofZ w64 x)) (toZ w64 (ofZ w64 y)) → a ≡ false → b ≡ ltZ (toZ w64 (ofZ w64 y)) (toZ w64 (ofZ w64 x)) → b ≡ false → Comparing xs ys k (i + 1)
   unfolding cheaper
-  comparing-done h = rw (span-none (λ (j : ℕ). getD xs j 0) i k h) at (c .rest)
+  comparing-next h v w e f l t m u = record { rest = rw (more xs h, more ys h, sym (test v w e f) ∙ sym l ∙ t, sym (test w v f e) ∙ sym m ∙ u) at (c .rest) }
+
+  pub comparing-done : k ≤ i → false ≡ cheaper ltZ (take k xs) (take k ys)
+  unfolding cheaper
+  comparing-done h = rw (span-none (λ (j : ℕ). getD xs j (pos 0)) i k h) at (c .rest)
 
 -- ---- the condition of a symbol
 

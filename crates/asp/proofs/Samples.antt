@@ -5,12 +5,13 @@ use mathlib.Core.Bool.{Bool, true, false}
 use mathlib.Core.List.{List, [], _∷_, map}
 use Prim.Native.Nat.{ℕ, _≤_}
 use native.Mathlib.Omega.{arith}
-use lib.Dec.{T, ltb}
+use lib.Dec.{T}
+use lib.Signed.{ltZ}
 use lib.IntN.{ℤ, pos, negsuc}
 use Rattle.asp.specs.Sets.{Set, In, same, iterate}
 use Rattle.asp.specs.Program.{Literal, Body, normal, Head, constraint, plain, choice, Rule, Entry, Program, All, RuleIn, atoms, highest}
 use Rattle.asp.specs.Stable.{Stable, listed, models, allHold, member, adds, anyViolated, subsets, keep}
-use Rattle.asp.specs.Cost.{level, total, costs, cheaper}
+use Rattle.asp.specs.Cost.{level, totalℤ, costs, cheaper}
 use Rattle.asp.proofs.Models.{OneOf, models-all, models-only}
 
 -- ---- the table
@@ -19,13 +20,13 @@ pub record Sample : Type 0 where
   pub program : Program
   -- its stable models, each as the list of its atoms, and the cost of each
   pub models : List (List ℕ)
-  pub costs : List (List ℕ)
+  pub costs : List (List ℤ)
 
 abbrev rule : Head → List Literal → Rule
 rule h ls = record { head = h; body = normal ls }
 
 -- a literal and its weight, at one priority
-abbrev entry : ℤ → Literal → ℕ → Entry
+abbrev entry : ℤ → Literal → ℤ → Entry
 entry p l w = record { priority = p; literal = l; weight = w }
 
 -- rules alone
@@ -39,7 +40,7 @@ abbrev plan : Program
 plan = record {
   rules = rule (choice (1 ∷ 2 ∷ [])) [] ∷ rule (plain 3) (pos 1 ∷ pos 2 ∷ []) ∷ rule constraint (negsuc 0 ∷ negsuc 1 ∷ []) ∷ [];
   priorities = pos 1 ∷ [];
-  entries = entry (pos 1) (pos 1) 2 ∷ entry (pos 1) (pos 2) 3 ∷ [];
+  entries = entry (pos 1) (pos 1) (pos 2) ∷ entry (pos 1) (pos 2) (pos 3) ∷ [];
   symbols = record { name = 97 ∷ []; condition = pos 1 ∷ [] } ∷ record { name = 98 ∷ []; condition = pos 2 ∷ [] } ∷ [];
 }
 
@@ -64,14 +65,14 @@ table =
       program = record {
         rules = rule (choice (1 ∷ [])) [] ∷ [];
         priorities = pos 0 ∷ [];
-        entries = entry (pos 0) (pos 1) 2 ∷ entry (pos 0) (pos 1) 3 ∷ [];
+        entries = entry (pos 0) (pos 1) (pos 2) ∷ entry (pos 0) (pos 1) (pos 3) ∷ [];
         symbols = [];
       };
       models = [] ∷ (1 ∷ []) ∷ [];
-      costs = (0 ∷ []) ∷ (5 ∷ []) ∷ [];
+      costs = (pos 0 ∷ []) ∷ (pos 5 ∷ []) ∷ [];
     }
     -- the file plan.aspif
-    ∷ record { program = plan; models = (1 ∷ []) ∷ (2 ∷ []) ∷ (3 ∷ 2 ∷ 1 ∷ []) ∷ []; costs = (2 ∷ []) ∷ (3 ∷ []) ∷ (5 ∷ []) ∷ [] }
+    ∷ record { program = plan; models = (1 ∷ []) ∷ (2 ∷ []) ∷ (3 ∷ 2 ∷ 1 ∷ []) ∷ []; costs = (pos 2 ∷ []) ∷ (pos 3 ∷ []) ∷ (pos 5 ∷ []) ∷ [] }
     ∷ []
 
 -- ---- what the table says
@@ -99,13 +100,13 @@ all-right [] c = tt
 all-right (s ∷ ss) c = (right s (c .0), all-right ss (c .1))
 
 computed : All Computed table
-unfolding highest same iterate allHold member adds anyViolated subsets keep level total
+unfolding highest same iterate allHold member adds anyViolated subsets keep level totalℤ
 computed = (record { heads = tt; found = refl; priced = refl }, (record { heads = omega arith; found = refl; priced = refl }, (record { heads = omega arith; found = refl; priced = refl }, (record { heads = omega arith; found = refl; priced = refl }, (record { heads = omega arith; found = refl; priced = refl }, (record { heads = omega arith; found = refl; priced = refl }, (record { heads = omega arith; found = refl; priced = refl }, (record { heads = omega arith; found = refl; priced = refl }, (record { heads = omega arith; found = refl; priced = refl }, tt)))))))))
 
 pub table-right : All Right table
 table-right = all-right table computed
 
 -- (0, 900) is cheaper than (1, 0)
-pub level-by-level : cheaper ltb (0 ∷ 900 ∷ []) (1 ∷ 0 ∷ []) ≡ true
+pub level-by-level : cheaper ltZ (pos 0 ∷ pos 900 ∷ []) (pos 1 ∷ pos 0 ∷ []) ≡ true
 unfolding cheaper
 level-by-level = refl

@@ -3,6 +3,7 @@ pub mod Literal
 pub mod Program
 pub mod Stable
 pub mod Cost
+pub mod Penalty
 pub mod Tables
 pub mod Growth
 pub mod Paying

@@ -2,19 +2,26 @@
 use mathlib.Core.Bool.{Bool, true, false}
 use mathlib.Core.List.{List}
 use Prim.Native.Nat.{ℕ, _+_, _*_, _≤_, _<_}
-use lib.IntN.{ℤ}
+use lib.IntN.{ℤ, pos}
 use lib.ListN.{length}
 use Rattle.asp.specs.Sets.{Set, pick}
 use Rattle.asp.specs.Literal.{sameℤ}
 use Rattle.asp.specs.Program.{Entry, All, LiteralIn}
-use Rattle.asp.specs.Cost.{entryCost}
+use Rattle.asp.specs.Cost.{entryCost, negativePart}
 use Rattle.asp.specs.Tables.{Row, rowAt, literalsAt, conditionAt, entriesOf}
 
--- what an entry costs on the level of priority p
-abbrev pub paid : Set → ℤ → Entry → ℕ
-paid M p e = pick (sameℤ p (e .priority)) (entryCost M e) 0
+-- what an entry adds to a sum over the level of priority p, if f says what it comes to
+abbrev pub onLevel : (Entry → ℤ) → ℤ → Entry → ℤ
+onLevel f p e = pick (sameℤ p (e .priority)) (f e) (pos 0)
 
-pub record EntriesFormed (priorities literals : List ℤ) (weights : List ℕ) (count : ℕ) : Type 0 where
+-- what it costs there, and what it takes off the start
+abbrev pub paid : Set → ℤ → Entry → ℤ
+paid M p e = onLevel (entryCost M) p e
+
+abbrev pub taken : ℤ → Entry → ℤ
+taken p e = onLevel (λ (x : Entry). negativePart (x .weight)) p e
+
+pub record EntriesFormed (priorities literals weights : List ℤ) (count : ℕ) : Type 0 where
   pub few : count ≤ 65536
   pub priorities-long : count ≤ length priorities
   pub literals-long : count ≤ length literals

@@ -24,11 +24,11 @@ pub record Rule : Type 0 where
   pub head : Head
   pub body : Body
 
--- "k pairs of literal and weight: minimise at priority p. Each pair is an entry."
+-- "k pairs of literal and weight: minimise at priority p. Each pair is an entry." Order 1: "Weights now run from -1,000,000 to 1,000,000".
 pub record Entry : Type 0 where
   pub priority : ℤ
   pub literal : Literal
-  pub weight : ℕ
+  pub weight : ℤ
 
 -- "symbol s .. shown when all k literals hold"
 pub record Symbol : Type 0 where

@@ -70,10 +70,10 @@ pub record Formed (n : ℕ) (pool : List ℤ) (rows : List ℕ) (count : ℕ) : 
 
 -- ---- entries: a table of priorities, one of literals and one of weights
 
-abbrev pub entryAt : List ℤ → List ℤ → List ℕ → ℕ → Entry
-entryAt priorities literals weights i = record { priority = getD priorities i (pos 0); literal = getD literals i (pos 0); weight = getD weights i 0 }
+abbrev pub entryAt : List ℤ → List ℤ → List ℤ → ℕ → Entry
+entryAt priorities literals weights i = record { priority = getD priorities i (pos 0); literal = getD literals i (pos 0); weight = getD weights i (pos 0) }
 
-abbrev pub entriesOf : List ℤ → List ℤ → List ℕ → ℕ → List Entry
+abbrev pub entriesOf : List ℤ → List ℤ → List ℤ → ℕ → List Entry
 entriesOf priorities literals weights count = span (entryAt priorities literals weights) 0 count
 
 -- ---- symbols: the text, a pool of condition literals, and a row for each symbol:
@@ -100,7 +100,7 @@ pub record Tables : Type 0 where
   pub levelcount : ℕ
   pub priorities : List ℤ
   pub literals : List ℤ
-  pub weights : List ℕ
+  pub weights : List ℤ
   pub entrycount : ℕ
   pub conditions : List ℤ
   pub symbols : List ℕ

@@ -3,6 +3,8 @@
 use borrow.Author.Needs.{needs}
 use Prim.Native.Nat.{_-_}
 use native.Mathlib.Omega.{arith}
+use mir.Syntax.{w64}
+use mir.Val.{SFits}
 use Rattle.asp.proofs.Paying.{Comparing, comparing-start, comparing-less, comparing-more, comparing-next, comparing-done}
 use Rattle.asp.proofs.cost.is_cheaper.Statement.{statement}
 use Rattle.asp.proofs.cost.is_cheaper.Tie as tie
@@ -13,38 +15,32 @@ Inv-loop a b k i₀ i = Comparing a b k i
 abbrev μ-loop : tie.MeasureT-loop
 μ-loop a b k i₀ i = k - i
 
+fits-x : (c : tie.After-figure-at Inv-loop μ-loop) → SFits w64 (c .figure-at .result)
+fits-x c = record { sfits = c .figure-at .ok }
+
+fits-y : (c : tie.After-figure-at2 Inv-loop μ-loop) → SFits w64 (c .figure-at2 .result)
+fits-y c = record { sfits = c .figure-at2 .ok }
+
 loop-holds : tie.Need-loop-holds Inv-loop μ-loop
 loop-holds c = search (comparing-start, needs)
 
-mul-if1 : tie.Need-mul-if1 Inv-loop μ-loop
-mul-if1 c = search needs
+figure-at-requires : tie.Need-figure-at-requires Inv-loop μ-loop
+figure-at-requires c κs = omega arith
 
-shared-slice-read-if1 : tie.Need-shared-slice-read-if1 Inv-loop μ-loop
-shared-slice-read-if1 c = omega arith
+figure-at-requires-2 : tie.Need-figure-at-requires-2 Inv-loop μ-loop
+figure-at-requires-2 c κs = omega arith
 
-mul-if1-2 : tie.Need-mul-if1-2 Inv-loop μ-loop
-mul-if1-2 c = search needs
-
-shared-slice-read-if1-2 : tie.Need-shared-slice-read-if1-2 Inv-loop μ-loop
-shared-slice-read-if1-2 c = omega arith
+is-less-requires : tie.Need-is-less-requires Inv-loop μ-loop
+is-less-requires c κs = search needs
 
 returns : tie.Need-returns Inv-loop μ-loop
-returns c = search (comparing-less, needs)
+returns c = search (comparing-less, fits-x (c .before .before .before), fits-y (c .before .before), needs)
 
-mul-if2 : tie.Need-mul-if2 Inv-loop μ-loop
-mul-if2 c = search needs
-
-shared-slice-read-if2 : tie.Need-shared-slice-read-if2 Inv-loop μ-loop
-shared-slice-read-if2 c = omega arith
-
-mul-if2-2 : tie.Need-mul-if2-2 Inv-loop μ-loop
-mul-if2-2 c = search needs
-
-shared-slice-read-if2-2 : tie.Need-shared-slice-read-if2-2 Inv-loop μ-loop
-shared-slice-read-if2-2 c = omega arith
+is-less-requires-2 : tie.Need-is-less-requires-2 Inv-loop μ-loop
+is-less-requires-2 c κs = search needs
 
 returns-2 : tie.Need-returns-2 Inv-loop μ-loop
-returns-2 c = search (comparing-more, needs)
+returns-2 c = search (comparing-more, fits-x (c .before .before .before .before .before), fits-y (c .before .before .before .before), needs)
 
 add-i : tie.Need-add-i Inv-loop μ-loop
 add-i c = omega arith
@@ -53,7 +49,7 @@ loop-less : tie.Need-loop-less Inv-loop μ-loop
 loop-less c = omega arith
 
 loop-again : tie.Need-loop-again Inv-loop μ-loop
-loop-again c = search (comparing-next, needs)
+loop-again c = search (comparing-next, fits-x (c .before .before .before .before .before), fits-y (c .before .before .before .before), needs)
 
 returns-3 : tie.Need-returns-3 Inv-loop μ-loop
 returns-3 c = search (comparing-done, needs)
@@ -65,15 +61,11 @@ is-cheaper-spec =
     Inv-loop
     μ-loop
     loop-holds
-    mul-if1
-    shared-slice-read-if1
-    mul-if1-2
-    shared-slice-read-if1-2
+    figure-at-requires
+    figure-at-requires-2
+    is-less-requires
     returns
-    mul-if2
-    shared-slice-read-if2
-    mul-if2-2
-    shared-slice-read-if2-2
+    is-less-requires-2
     returns-2
     add-i
     loop-less

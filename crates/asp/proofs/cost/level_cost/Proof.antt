@@ -2,28 +2,33 @@
 -- Assumes nothing.
 use borrow.Author.Needs.{needs}
 use Prim.Native.Nat.{_-_}
+use native.Mathlib.Omega.{arith}
 use lib.IntN.{pos}
 use lib.ListN.{getD}
-use native.Mathlib.Omega.{arith}
+use mir.Syntax.{w64}
+use mir.Val.{SFits, toZ}
 use Rattle.asp.specs.Sets.{setOf}
-use Rattle.asp.proofs.Paying.{Summing, summing-start, summing-next, summing-done, entry-atom}
+use Rattle.asp.specs.Cost.{entryCost}
+use Rattle.asp.proofs.Paying.{Summing, summing-start, summing-room, summing-added, summing-done, summing-term, entry-atom}
 use Rattle.asp.proofs.cost.level_cost.Statement.{statement}
 use Rattle.asp.proofs.cost.level_cost.Tie as tie
 
 abbrev Inv-loop : tie.InvT-loop
-Inv-loop levels l priorities literals weights count m sum₀ e₀ sum e = Summing (setOf m) (getD levels l (pos 0)) priorities literals weights count sum e
+Inv-loop levels l priorities literals weights count m sum₀ e₀ sum e = Summing (entryCost (setOf m)) (getD levels l (pos 0)) priorities literals weights count (toZ w64 sum) e
 
 abbrev μ-loop : tie.MeasureT-loop
 μ-loop levels l priorities literals weights count m sum₀ e₀ sum e = count - e
 
 loop-holds : tie.Need-loop-holds Inv-loop μ-loop
-loop-holds c = search (summing-start, needs)
+loop-holds c = summing-start _ _ _ _ _ _
 
 paid-at-requires : tie.Need-paid-at-requires Inv-loop μ-loop
 paid-at-requires c κs = (search needs, omega arith, omega arith, omega arith, search (entry-atom, needs), search needs)
 
-add-sum : tie.Need-add-sum Inv-loop μ-loop
-add-sum c = omega arith
+plus-requires : tie.Need-plus-requires Inv-loop μ-loop
+plus-requires c κs =
+    let f : SFits w64 (c .paid-at .result) = record { sfits = c .paid-at .ok } in
+    (search (summing-room, needs), summing-term f (c .paid-at .ensures .1))
 
 add-e : tie.Need-add-e Inv-loop μ-loop
 add-e c = omega arith
@@ -32,7 +37,10 @@ loop-less : tie.Need-loop-less Inv-loop μ-loop
 loop-less c = omega arith
 
 loop-again : tie.Need-loop-again Inv-loop μ-loop
-loop-again c = search (summing-next, needs)
+loop-again c =
+    let f : SFits w64 (c .before .paid-at .result) = record { sfits = c .before .paid-at .ok } in
+    let g : SFits w64 (c .plus .result) = record { sfits = c .plus .ok } in
+    search (summing-added, f, g, needs)
 
 returns : tie.Need-returns Inv-loop μ-loop
 returns c = search (summing-done, needs)
@@ -45,7 +53,7 @@ level-cost-spec =
     μ-loop
     loop-holds
     paid-at-requires
-    add-sum
+    plus-requires
     add-e
     loop-less
     loop-again

@@ -3,6 +3,8 @@
 use borrow.Author.Needs.{needs}
 use Prim.Native.Nat.{_-_}
 use native.Mathlib.Omega.{arith}
+use mir.Syntax.{w64}
+use mir.Val.{SFits}
 use Rattle.asp.specs.Sets.{setOf}
 use Rattle.asp.specs.Cost.{cost, level}
 use Rattle.asp.specs.Tables.{entriesOf}
@@ -22,11 +24,11 @@ loop-holds c = search (filling-start, needs)
 level-cost-requires : tie.Need-level-cost-requires Inv-loop μ-loop
 level-cost-requires c κs = (omega arith, search needs, search needs)
 
-mul-costs : tie.Need-mul-costs Inv-loop μ-loop
-mul-costs c = omega arith
+mul-t12 : tie.Need-mul-t12 Inv-loop μ-loop
+mul-t12 c = omega arith
 
-element-write-costs : tie.Need-element-write-costs Inv-loop μ-loop
-element-write-costs c = omega arith
+element-set-from-costs : tie.Need-element-set-from-costs Inv-loop μ-loop
+element-set-from-costs c = omega arith
 
 add-i : tie.Need-add-i Inv-loop μ-loop
 add-i c = omega arith
@@ -35,7 +37,9 @@ loop-less : tie.Need-loop-less Inv-loop μ-loop
 loop-less c = omega arith
 
 loop-again : tie.Need-loop-again Inv-loop μ-loop
-loop-again c = search (filling-next, needs)
+loop-again c =
+    let f : SFits w64 (c .level-cost .result) = record { sfits = c .level-cost .ok } in
+    search (filling-next, f, needs)
 
 returns : tie.Need-returns Inv-loop μ-loop
 returns c = search (filling-done, needs)
@@ -48,8 +52,8 @@ level-costs-spec =
     μ-loop
     loop-holds
     level-cost-requires
-    mul-costs
-    element-write-costs
+    mul-t12
+    element-set-from-costs
     add-i
     loop-less
     loop-again

@@ -1,8 +1,11 @@
 -- `asp::cost::paid_at` meets its contract.
 -- Assumes nothing.
-use native.Mathlib.Omega.{arith}
-use Rattle.asp.proofs.Paying.{paid-here, paid-unheld, paid-elsewhere}
 use borrow.Author.Needs.{needs}
+use Prim.Native.Nat.{_≤_}
+use native.Mathlib.Omega.{arith}
+use mir.Syntax.{w32, w64}
+use mir.Val.{SFits}
+use Rattle.asp.proofs.Paying.{weight-small, paid-here, paid-unheld, elsewhere}
 use Rattle.asp.proofs.cost.paid_at.Statement.{statement}
 use Rattle.asp.proofs.cost.paid_at.Tie as tie
 
@@ -12,23 +15,23 @@ is-on-requires c κs = search needs
 holds-at-requires : tie.Need-holds-at-requires
 holds-at-requires c κs = search needs
 
-mul-wide : tie.Need-mul-wide
-mul-wide c = search needs
-
-shared-slice-read-wide : tie.Need-shared-slice-read-wide
-shared-slice-read-wide c = search needs
+literal-at-requires : tie.Need-literal-at-requires
+literal-at-requires c κs = search needs
 
 wide-requires : tie.Need-wide-requires
 wide-requires c κs = search needs
 
 returns : tie.Need-returns
-returns c = (search (paid-here, needs), search needs)
+returns c =
+    let v : SFits w32 (c .before .literal-at .result) = record { sfits = c .before .literal-at .ok } in
+    let w : SFits w64 (c .wide .result) = record { sfits = c .wide .ok } in
+    (search (paid-here, v, w, c .wide .ensures, needs), weight-small w (c .wide .ensures))
 
 returns-2 : tie.Need-returns-2
 returns-2 c = (search (paid-unheld, needs), omega arith)
 
 returns-3 : tie.Need-returns-3
-returns-3 c = (search (paid-elsewhere, needs), omega arith)
+returns-3 c = (search (elsewhere, needs), omega arith)
 
 pub paid-at-spec : {M : Type 1} → statement M
 paid-at-spec =
@@ -36,8 +39,7 @@ paid-at-spec =
     (tie.spec
     is-on-requires
     holds-at-requires
-    mul-wide
-    shared-slice-read-wide
+    literal-at-requires
     wide-requires
     returns
     returns-2

@@ -1,0 +1,48 @@
+// Figures: costs and bounds, as signed numbers.
+ghost use mathlib.Core.Path.{_≡_};
+ghost use Prim.Native.Nat.{ℕ, _≤_, _<_};
+ghost use lib.IntN.{ℤ, pos, natAbs, _+ℤ_};
+ghost use lib.ListN.{length, getD};
+ghost use lib.Signed.{ltZ};
+ghost use Rattle.asp.specs.Literal.{sameℤ};
+
+// A weight as a figure.
+pub fn wide(w: i32) -> i64
+    ensures { λ r. ⌜ (r ≡ w) × (natAbs r ≤ 2147483648) ⌝ }
+{
+    w as i64
+}
+
+// A natural number as a figure.
+pub fn natural(n: u32) -> i64
+    ensures { λ r. ⌜ r ≡ pos n ⌝ }
+{
+    n as i64
+}
+
+pub fn plus(a: i64, b: i64) -> i64
+    requires { ⌜ (natAbs a ≤ 1000000000000000000) × (natAbs b ≤ 1000000000000000000) ⌝ }
+    ensures { λ r. ⌜ r ≡ a +ℤ b ⌝ }
+{
+    a + b
+}
+
+pub fn equal(a: i64, b: i64) -> bool
+    ensures { λ r. ⌜ r ≡ sameℤ a b ⌝ }
+{
+    a == b
+}
+
+pub fn is_less(a: i64, b: i64) -> bool
+    ensures { λ r. ⌜ r ≡ ltZ a b ⌝ }
+{
+    a < b
+}
+
+// A figure of a table.
+pub fn figure_at(t: &[i64], i: usize) -> i64
+    requires { ⌜ i < length (now t) ⌝ }
+    ensures { λ r. ⌜ r ≡ getD (now (t .entry)) i (pos 0) ⌝ }
+{
+    t[i]
+}
