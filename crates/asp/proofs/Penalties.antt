@@ -17,7 +17,7 @@ use Rattle.asp.specs.Stable.{holds}
 use Rattle.asp.specs.Cost.{total, totalℤ, weight, entryCost, cost, negativePart, start, cheaper, NoDearer}
 use Rattle.asp.specs.Penalty.{Penalty, paidLiteral, penalty, penalties, penaltyCharge, charge, bulk, above, rise}
 use Rattle.asp.proofs.Literals.{holds-complement}
-use Rattle.asp.proofs.Signed.{same-refl, same-true}
+use Rattle.asp.proofs.Signed.{abs-neg, same-refl, same-true}
 
 -- literals are of atoms from 1 on
 abbrev pub Named : List Entry → Type 0
@@ -30,6 +30,12 @@ left-comm a b c = sym (+ℤ-assoc a b c) ∙ ap (λ (z : ℤ). z +ℤ c) (+ℤ-c
 
 swap : (a b c d : ℤ) → (a +ℤ b) +ℤ (c +ℤ d) ≡ (a +ℤ c) +ℤ (b +ℤ d)
 swap a b c d = simp (+ℤ-assoc, +ℤ-comm, left-comm)
+
+-- ---- the literal that costs is of the entry's atom
+
+pub paid-atom : (l w : ℤ) → natAbs (paidLiteral l w) ≡ natAbs l
+paid-atom l (pos w) = refl
+paid-atom l (negsuc w) = abs-neg l
 
 -- ---- one entry: "It counts as a fixed -w and a wish of weight w for the literal itself."
 

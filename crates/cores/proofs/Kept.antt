@@ -12,12 +12,13 @@ use lib.Seq.{sets}
 use Rattle.asp.specs.Sets.{pick}
 use Rattle.asp.specs.Literal.{sameℤ}
 use Rattle.asp.specs.Program.{Entry, All, Distinct}
-use Rattle.asp.specs.Cost.{total, weight, level}
+use Rattle.asp.specs.Penalty.{Penalty, penalty, penalties, bulk}
+use Rattle.asp.specs.Cost.{total, level}
 use Rattle.cores.specs.declared.level.LevelTables.{LevelTables}
 use Rattle.cores.specs.declared.judge.Judged.the-variants.{Met, Violated}
 use Rattle.cores.specs.Sums.{Holds}
 use Rattle.cores.specs.Soft.{InOrder}
-use Rattle.cores.specs.Level.{Level, weighty, opened, greatest, under, assumedFrom, recorded, fewer, coreFits, FormedEntries}
+use Rattle.cores.specs.Level.{Level, weighty, opened, greatest, under, assumedFrom, recorded, fewer, coreFits, FormedPenalties}
 use Rattle.cores.specs.Identity.{Problem, Good, Core}
 use Rattle.cores.specs.Judging.{firstViolated}
 use Rattle.cores.specs.Columns.{assumedOf, Pairs, entryColumns}
@@ -33,41 +34,41 @@ use Rattle.cores.proofs.Links.{kinds-count, rests-count, counted, opene
 
 -- ---- entries
 
-pub weighty-all : (P : Entry → Type 0) (es : List Entry) → All P es → All P (weighty es)
+pub weighty-all : (P : Penalty → Type 0) (es : List Penalty) → All P es → All P (weighty es)
 unfolding weighty
 weighty-all P [] a = tt
 weighty-all P (e ∷ es) a =
     elim (ltb 0 (e .weight)) as (λ b. All P (pick b (e ∷ weighty es) (weighty es))) [ true ↦ (a .0, weighty-all P es (a .1)) | false ↦ weighty-all P es (a .1) ]
 
-pub level-all : (P : Entry → Type 0) (q : ℤ) (es : List Entry) → All P es → All P (level q es)
+pub level-all : (P : Penalty → Type 0) (q : ℤ) (es : List Entry) → All P (penalties es) → All P (penalties (level q es))
 unfolding level
 level-all P q [] a = tt
 level-all P q (e ∷ es) a =
-    elim (sameℤ q (e .priority)) as (λ b. All P (pick b (e ∷ level q es) (level q es))) [ true ↦ (a .0, level-all P q es (a .1)) | false ↦ level-all P q es (a .1) ]
+    elim (sameℤ q (e .priority)) as (λ b. All P (penalties (pick b (e ∷ level q es) (level q es)))) [ true ↦ (a .0, level-all P q es (a .1)) | false ↦ level-all P q es (a .1) ]
 
-weight-most : (n : ℕ) (es : List Entry) → All (λ (e : Entry). e .weight ≤ n) es → weight es ≤ length es * n
+weight-most : (n : ℕ) (es : List Penalty) → All (λ (e : Penalty). e .weight ≤ n) es → bulk es ≤ length es * n
 unfolding total
 weight-most n [] a = zero-le
 weight-most n (e ∷ es) a = omega (arith, a .0, weight-most n es (a .1))
 
-module _ (es : List Entry) (f : FormedEntries es) (q : ℤ) where
-  pub level-formed : FormedEntries (level q es)
+module _ (es : List Entry) (f : FormedPenalties (penalties es)) (q : ℤ) where
+  pub level-formed : FormedPenalties (penalties (level q es))
   level-formed = record {
-    few = omega (arith, f .few, length-level q es);
-    atoms = level-all (λ e. natAbs (e .literal) ≤ 1024) q es (f .atoms);
-    weights = level-all (λ e. e .weight ≤ 1000000) q es (f .weights);
+    few = omega (arith, f .few, length-level q es, length-map es penalty, length-map (level q es) penalty);
+    atoms = level-all (λ p. natAbs (p .literal) ≤ 1024) q es (f .atoms);
+    weights = level-all (λ p. p .weight ≤ 1000000) q es (f .weights);
   }
 
 -- a level weighs at most 512,000,000
-pub level-weight : (es : List Entry) → FormedEntries es → weight es ≤ 512000000
+pub level-weight : (es : List Penalty) → FormedPenalties es → bulk es ≤ 512000000
 level-weight es f = omega (arith, weight-most 1000000 es (f .weights), f .few)
 
 -- ---- a level is opened
 
 -- THE TABLES OF A LEVEL THAT IS OPENED ARE SOUND, AND MEAN IT
-module _ (es : List Entry) (f : FormedEntries es) where
+module _ (es : List Penalty) (f : FormedPenalties es) where
   softs-few : length (softsOf es) ≤ 4096
-  softs-few = omega (arith, length-map (weighty es) (λ (e : Entry). entrySoft (e .literal) (e .weight)), length-weighty es, f .few)
+  softs-few = omega (arith, length-map (weighty es) (λ (e : Penalty). entrySoft (e .literal) (e .weight)), length-weighty es, f .few)
 
   pub opened-means : levelOf (openedTables es) ≡ opened es
   opened-means = opened-level es softs-few
@@ -78,7 +79,7 @@ module _ (es : List Entry) (f : FormedEntries es) where
     ordered = subst (λ (l : Level). InOrder (l .kinds) (l .cores)) (sym opened-means) (opened-good (λ M. ⊥) es .ordered);
   }
 
-  weights-below : (xs : List Entry) → All (λ (e : Entry). e .weight ≤ 1000000) xs → All (λ w. w < 1000001) (map (λ (e : Entry). e .weight) xs)
+  weights-below : (xs : List Penalty) → All (λ (e : Penalty). e .weight ≤ 1000000) xs → All (λ w. w < 1000001) (map (λ (e : Penalty). e .weight) xs)
   weights-below [] a = tt
   weights-below (x ∷ xs) a = (omega (arith, a .0), weights-below xs (a .1))
 

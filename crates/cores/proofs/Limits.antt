@@ -8,8 +8,7 @@ use native.Mathlib.Omega.{arith}
 use borrow.Author.Tests.{le-leb}
 use lib.ListN.{length, getD, replicate, length-replicate, length-append}
 use Rattle.asp.specs.Sets.{Set, ind}
-use Rattle.asp.specs.Program.{Entry}
-use Rattle.asp.specs.Cost.{weight}
+use Rattle.asp.specs.Penalty.{Penalty, bulk}
 use Rattle.cores.specs.Sums.{wsum, lose}
 use Rattle.cores.specs.Soft.{violated}
 use Rattle.cores.specs.Level.{Level, weighty, opened, recorded, fewer, held, room}
@@ -65,7 +64,7 @@ module _ (P : Problem) where
     pub members-fit : held (l .cores) + tri (remaining l) ≤ tri whole
     pub softs-fit : length (l .rests) + low (remaining l) ≤ tri whole
 
-  pub opened-fits : (es : List Entry) → weight es ≡ whole → Fits (opened es)
+  pub opened-fits : (es : List Penalty) → bulk es ≡ whole → Fits (opened es)
   unfolding held
   opened-fits es w =
       let ws : List ℕ = weightsOf (weighty es) in

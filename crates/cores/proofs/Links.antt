@@ -12,7 +12,8 @@ use lib.ListN.{length, getD, set, take, drop, replicate, length-append, length-s
 use lib.Seq.{sets, sets-eq, length-sets, slice, length-slice, take-at, drop-at, take-append-le, length-take-le, take-set-lt, getD-take, getD-set-same, getD-set-other, map-set-same, take-take, getD-append-add}
 use borrow.Author.Tests.{ne-eqb}
 use Rattle.asp.specs.Sets.{pick}
-use Rattle.asp.specs.Program.{Entry, All}
+use Rattle.asp.specs.Program.{All}
+use Rattle.asp.specs.Penalty.{Penalty}
 use Rattle.asp.specs.Tables.{span}
 use Rattle.cores.specs.declared.soft.Soft.{Soft}
 use Rattle.cores.specs.declared.level.LevelTables.{LevelTables}
@@ -145,7 +146,7 @@ module _ (t : LevelTables) (f : FormedTables t) where
 
 -- ---- a level is opened
 
-module _ (es : List Entry) (few : length (softsOf es) ≤ 4096) where
+module _ (es : List Penalty) (few : length (softsOf es) ≤ 4096) where
   opened-softs : take (length (softsOf es)) (sets (replicate 4096 noSoft) 0 (softsOf es)) ≡ softsOf es
   opened-softs =
       ap (λ (n : ℕ). take n (sets (replicate 4096 noSoft) 0 (softsOf es))) (sym (zero-add (length (softsOf es))))
@@ -156,15 +157,15 @@ module _ (es : List Entry) (few : length (softsOf es) ≤ 4096) where
   unfolding span
   opened-level =
       ap₂ (λ (ks : List Kind) (ws : List ℕ). record { kinds = ks; rests = ws; cores = []; lower = 0 })
-      (ap (map kindOf) opened-softs ∙ map-map (λ (e : Entry). entrySoft (e .literal) (e .weight)) kindOf (weighty es))
-      (ap (map weightOf) opened-softs ∙ map-map (λ (e : Entry). entrySoft (e .literal) (e .weight)) weightOf (weighty es))
+      (ap (map kindOf) opened-softs ∙ map-map (λ (e : Penalty). entrySoft (e .literal) (e .weight)) kindOf (weighty es))
+      (ap (map weightOf) opened-softs ∙ map-map (λ (e : Penalty). entrySoft (e .literal) (e .weight)) weightOf (weighty es))
 
-  softs-small : (xs : List Entry) → All (λ (e : Entry). natAbs (e .literal) ≤ 1024) xs → All (λ (r : Soft). natAbs (r .literal) ≤ 1024) (map (λ (e : Entry). entrySoft (e .literal) (e .weight)) xs)
+  softs-small : (xs : List Penalty) → All (λ (e : Penalty). natAbs (e .literal) ≤ 1024) xs → All (λ (r : Soft). natAbs (r .literal) ≤ 1024) (map (λ (e : Penalty). entrySoft (e .literal) (e .weight)) xs)
   softs-small [] a = tt
   softs-small (x ∷ xs) a = (a .0, softs-small xs (a .1))
 
   -- and they are in shape
-  pub opened-formed : All (λ (e : Entry). natAbs (e .literal) ≤ 1024) (weighty es) → FormedTables (openedTables es)
+  pub opened-formed : All (λ (e : Penalty). natAbs (e .literal) ≤ 1024) (weighty es) → FormedTables (openedTables es)
   opened-formed a = record {
     softs-len = length-sets (replicate 4096 noSoft) 0 (softsOf es) ∙ length-replicate 4096 noSoft;
     members-len = length-replicate {A = ℕ} 4096 0;

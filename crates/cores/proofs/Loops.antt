@@ -11,7 +11,7 @@ use native.Mathlib.Nat.{add-zero, zero-add}
 use native.Mathlib.Omega.{arith}
 use lib.Dec.{ltb, leb, leb→le}
 use mir.Facts.{and-yes}
-use lib.IntN.{ℤ, pos}
+use lib.IntN.{ℤ, pos, natAbs}
 use lib.ListN.{length, getD, set, drop, length-set, drop-of-length-le}
 use lib.Seq.{drop-cons, sets}
 use borrow.Author.Tests.{le-leb, lt-leb}
@@ -19,11 +19,12 @@ use Rattle.asp.specs.Sets.{pick}
 use Rattle.asp.specs.Literal.{sameℤ}
 use Rattle.asp.specs.Program.{Entry, All}
 use Rattle.asp.specs.Cost.{level}
+use Rattle.asp.specs.Penalty.{Penalty, paidLiteral, penalties}
 use Rattle.asp.specs.Tables.{span, entryAt, entriesOf}
 use Rattle.cores.specs.declared.soft.Soft.{Soft}
 use Rattle.cores.specs.declared.level.LevelTables.{LevelTables}
 use Rattle.cores.specs.Level.{weighty, coreFits}
-use Rattle.cores.specs.Tables.{noSoft, entrySoft, coreSoft, lighterBy, lighten, newSofts, softsOf, emptyTables, openedTables, countsAt, heldIn, recordedTables, Counted, Room, tried, triedTables}
+use Rattle.cores.specs.Tables.{noSoft, entrySoft, coreSoft, lighterBy, lighten, newSofts, softsOf, emptyTables, openedTables, countsAt, softAt, heldIn, recordedTables, Counted, Room, tried, triedTables}
 use Rattle.cores.proofs.Members.{all-at}
 
 -- ---- each member loses s
@@ -118,8 +119,8 @@ module _ {xs : List ℕ} {k : ℕ} {t₀ t : List ℕ} {i : ℕ} where
 
 -- ---- opening a level. A priority that goes from one call to the next stands as `toZ w32 (ofZ w32 q)`, its bits read back.
 
-module _ (ps : List ℤ) (ws : List ℕ) (i : ℕ) (q : ℤ) where
-  pub both : SFits w32 q → {b : Bool} → b ≡ sameℤ (toZ w32 (ofZ w32 q)) (getD ps i (pos 0)) → b ≡ true → {w : ℕ} → w ≡ getD ws i 0 → ltb 0 w ≡ countsAt ps ws i q
+module _ (ps ws : List ℤ) (i : ℕ) (q : ℤ) where
+  pub both : SFits w32 q → {b : Bool} → b ≡ sameℤ (toZ w32 (ofZ w32 q)) (getD ps i (pos 0)) → b ≡ true → {w : ℕ} → w ≡ natAbs (getD ws i (pos 0)) → ltb 0 w ≡ countsAt ps ws i q
   both s e t f = rw (sym (rw (toZ-ofZ s) at e) ∙ t, f)
 
   pub neither : SFits w32 q → {b : Bool} → b ≡ sameℤ (toZ w32 (ofZ w32 q)) (getD ps i (pos 0)) → b ≡ false → b ≡ countsAt ps ws i q
@@ -127,18 +128,20 @@ module _ (ps : List ℤ) (ws : List ℕ) (i : ℕ) (q : ℤ) where
 
 -- the soft literals of a level, entry by entry
 softs-cons : (q : ℤ) (e : Entry) (es : List Entry)
-    → softsOf (level q (e ∷ es)) ≡ pick (sameℤ q (e .priority) && ltb 0 (e .weight)) (entrySoft (e .literal) (e .weight) ∷ softsOf (level q es)) (softsOf (level q es))
+    → softsOf (penalties (level q (e ∷ es)))
+    ≡ pick (sameℤ q (e .priority) && ltb 0 (natAbs (e .weight))) (entrySoft (paidLiteral (e .literal) (e .weight)) (natAbs (e .weight)) ∷ softsOf (penalties (level q es))) (softsOf (penalties (level q es)))
 unfolding level weighty
-softs-cons q e es = go (sameℤ q (e .priority)) (ltb 0 (e .weight)) refl
+softs-cons q e es = go (sameℤ q (e .priority)) (ltb 0 (natAbs (e .weight))) refl
   where
-    go : (a b : Bool) → ltb 0 (e .weight) ≡ b
-        → softsOf (pick a (e ∷ level q es) (level q es)) ≡ pick (a && b) (entrySoft (e .literal) (e .weight) ∷ softsOf (level q es)) (softsOf (level q es))
+    go : (a b : Bool) → ltb 0 (natAbs (e .weight)) ≡ b
+        → softsOf (penalties (pick a (e ∷ level q es) (level q es)))
+        ≡ pick (a && b) (entrySoft (paidLiteral (e .literal) (e .weight)) (natAbs (e .weight)) ∷ softsOf (penalties (level q es))) (softsOf (penalties (level q es)))
     go false b f = refl
     go true true f = rw f
     go true false f = rw f
 
 -- the entries es still to come, at place k on
-abbrev openedFrom : LevelTables → ℕ → List Entry → LevelTables
+abbrev openedFrom : LevelTables → ℕ → List Penalty → LevelTables
 openedFrom t k es = record {
   softs = sets (t .softs) k (softsOf es);
   members = t .members;
@@ -148,11 +151,11 @@ openedFrom t k es = record {
   lower = t .lower;
 }
 
-module _ (ps ls : List ℤ) (ws : List ℕ) (n : ℕ) (q : ℤ) where
+module _ (ps ls ws : List ℤ) (n : ℕ) (q : ℤ) where
   pub record Opening (t : LevelTables) (k i : ℕ) : Type 0 where
     pub below : i ≤ n
     pub few : k ≤ i
-    pub rest : openedFrom t k (level q (span (entryAt ps ls ws) i (n - i))) ≡ openedTables (level q (entriesOf ps ls ws n))
+    pub rest : openedFrom t k (penalties (level q (span (entryAt ps ls ws) i (n - i)))) ≡ openedTables (penalties (level q (entriesOf ps ls ws n)))
 
   pub open-start : {t : LevelTables} → t ≡ emptyTables → Opening t 0 0
   open-start e = rw e (record {
@@ -162,8 +165,8 @@ module _ (ps ls : List ℤ) (ws : List ℕ) (n : ℕ) (q : ℤ) where
   })
 
   softs-next : (i m : ℕ) → n - i ≡ suc m
-      → softsOf (level q (span (entryAt ps ls ws) i (n - i)))
-      ≡ pick (countsAt ps ws i q) (entrySoft (getD ls i (pos 0)) (getD ws i 0) ∷ softsOf (level q (span (entryAt ps ls ws) (i + 1) (n - (i + 1))))) (softsOf (level q (span (entryAt ps ls ws) (i + 1) (n - (i + 1)))))
+      → softsOf (penalties (level q (span (entryAt ps ls ws) i (n - i))))
+      ≡ pick (countsAt ps ws i q) (softAt ls ws i ∷ softsOf (penalties (level q (span (entryAt ps ls ws) (i + 1) (n - (i + 1)))))) (softsOf (penalties (level q (span (entryAt ps ls ws) (i + 1) (n - (i + 1))))))
   unfolding span
   softs-next i m e =
       let f : n - (i + 1) ≡ m = omega arith in
@@ -173,13 +176,13 @@ module _ (ps ls : List ℤ) (ws : List ℕ) (n : ℕ) (q : ℤ) where
 abbrev putSoft : LevelTables → ℕ → Soft → LevelTables
 putSoft t k x = record { softs = set (t .softs) k x; members = t .members; ends = t .ends; count = t .count; cores = t .cores; lower = t .lower }
 
-from-put : (t : LevelTables) (k : ℕ) (x : Soft) (es fs : List Entry) → softsOf es ≡ x ∷ softsOf fs → openedFrom t k es ≡ openedFrom (putSoft t k x) (k + 1) fs
+from-put : (t : LevelTables) (k : ℕ) (x : Soft) (es fs : List Penalty) → softsOf es ≡ x ∷ softsOf fs → openedFrom t k es ≡ openedFrom (putSoft t k x) (k + 1) fs
 from-put t k x es fs e =
     ap (λ (xs : List Soft). record { softs = sets (t .softs) k xs; members = t .members; ends = t .ends; count = k + length xs; cores = t .cores; lower = t .lower }) e
     ∙ ap₂ (λ (a b : ℕ). record { softs = sets (set (t .softs) k x) a (softsOf fs); members = t .members; ends = t .ends; count = b; cores = t .cores; lower = t .lower })
     (sym (add-one k)) (omega arith)
 
-from-skip : (t : LevelTables) (k : ℕ) (es fs : List Entry) → softsOf es ≡ softsOf fs → openedFrom t k es ≡ openedFrom t k fs
+from-skip : (t : LevelTables) (k : ℕ) (es fs : List Penalty) → softsOf es ≡ softsOf fs → openedFrom t k es ≡ openedFrom t k fs
 from-skip t k es fs e =
     ap (λ (xs : List Soft). record { softs = sets (t .softs) k xs; members = t .members; ends = t .ends; count = k + length xs; cores = t .cores; lower = t .lower }) e
 
@@ -187,9 +190,9 @@ from-none : (t : LevelTables) (k : ℕ) → openedFrom t k [] ≡ record { softs
 unfolding weighty
 from-none t k = ap (λ (a : ℕ). record { softs = t .softs; members = t .members; ends = t .ends; count = a; cores = t .cores; lower = t .lower }) (add-zero k)
 
-module _ {ps ls : List ℤ} {ws : List ℕ} {n : ℕ} {q : ℤ} {t : LevelTables} {k i : ℕ} where
+module _ {ps ls ws : List ℤ} {n : ℕ} {q : ℤ} {t : LevelTables} {k i : ℕ} where
   pub open-put : Opening ps ls ws n q t k i → i < n → {b : Bool} → b ≡ countsAt ps ws i q → b ≡ true
-      → {x : Soft} → x ≡ entrySoft (getD ls i (pos 0)) (getD ws i 0) → {t₁ : LevelTables} → t₁ ≡ putSoft t k x → {k₁ : ℕ} → k₁ ≡ k + 1 → Opening ps ls ws n q t₁ k₁ (i + 1)
+      → {x : Soft} → x ≡ softAt ls ws i → {t₁ : LevelTables} → t₁ ≡ putSoft t k x → {k₁ : ℕ} → k₁ ≡ k + 1 → Opening ps ls ws n q t₁ k₁ (i + 1)
   open-put o h {b} e y {x} f et ek = rw (et, ek) (record {
     below = omega arith;
     few = omega (arith, o .few);
@@ -211,7 +214,7 @@ module _ {ps ls : List ℤ} {ws : List ℕ} {n : ℕ} {q : ℤ} {t : LevelTables
   })
 
   pub open-stop : Opening ps ls ws n q t k i → n ≤ i
-      → record { softs = t .softs; members = t .members; ends = t .ends; count = k; cores = t .cores; lower = t .lower } ≡ openedTables (level q (entriesOf ps ls ws n))
+      → record { softs = t .softs; members = t .members; ends = t .ends; count = k; cores = t .cores; lower = t .lower } ≡ openedTables (penalties (level q (entriesOf ps ls ws n)))
   unfolding span level
   open-stop o h = let e : n - i ≡ 0 = omega arith in sym (from-none t k) ∙ (rw e at (o .rest))
 

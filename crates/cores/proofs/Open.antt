@@ -12,8 +12,9 @@ use lib.ListN.{length, getD, length-map}
 use Rattle.asp.specs.Sets.{Set, pick, ind}
 use Rattle.asp.specs.Literal.{sameℤ}
 use Rattle.asp.specs.Program.{Entry, All}
+use Rattle.asp.specs.Penalty.{Penalty, charge, bulk, penaltyCharge}
 use Rattle.asp.specs.Stable.{holds}
-use Rattle.asp.specs.Cost.{total, cost, weight, entryCost, level}
+use Rattle.asp.specs.Cost.{total, level}
 use Rattle.cores.specs.Sums.{wsum}
 use Rattle.cores.specs.Soft.{Kind, entry, coreNumber, coreOf, kindAt, judge, violated, Earlier}
 use Rattle.cores.specs.Level.{weighty, opened}
@@ -21,24 +22,24 @@ use Rattle.cores.specs.Identity.{problem, Good}
 use Rattle.cores.proofs.Sums.{wsum-ext}
 
 -- what an entry's soft literal is, and its weight
-abbrev pub kindsOf : List Entry → List Kind
-kindsOf es = map (λ (e : Entry). entry (e .literal)) es
+abbrev pub kindsOf : List Penalty → List Kind
+kindsOf es = map (λ (e : Penalty). entry (e .literal)) es
 
-abbrev pub weightsOf : List Entry → List ℕ
-weightsOf es = map (λ (e : Entry). e .weight) es
+abbrev pub weightsOf : List Penalty → List ℕ
+weightsOf es = map (λ (e : Penalty). e .weight) es
 
 -- ---- the entries with weight above 0
 
-weighty-yes : (e : Entry) (es : List Entry) → ltb 0 (e .weight) ≡ true → weighty (e ∷ es) ≡ e ∷ weighty es
+weighty-yes : (e : Penalty) (es : List Penalty) → ltb 0 (e .weight) ≡ true → weighty (e ∷ es) ≡ e ∷ weighty es
 unfolding weighty
 weighty-yes e es q = rw q
 
-weighty-no : (e : Entry) (es : List Entry) → ltb 0 (e .weight) ≡ false → weighty (e ∷ es) ≡ weighty es
+weighty-no : (e : Penalty) (es : List Penalty) → ltb 0 (e .weight) ≡ false → weighty (e ∷ es) ≡ weighty es
 unfolding weighty
 weighty-no e es q = rw q
 
 -- by cases, with what the test says
-by-weight : (e : Entry) (es : List Entry) (P : List Entry → Type 0) → (1 ≤ e .weight → P (e ∷ weighty es)) → (e .weight ≡ 0 → P (weighty es)) → P (weighty (e ∷ es))
+by-weight : (e : Penalty) (es : List Penalty) (P : List Penalty → Type 0) → (1 ≤ e .weight → P (e ∷ weighty es)) → (e .weight ≡ 0 → P (weighty es)) → P (weighty (e ∷ es))
 by-weight e es P f g = go (ltb 0 (e .weight)) refl
   where
     go : (b : Bool) → ltb 0 (e .weight) ≡ b → P (weighty (e ∷ es))
@@ -49,14 +50,14 @@ total-cons : (x : ℕ) (xs : List ℕ) → total (x ∷ xs) ≡ x + total xs
 unfolding total
 total-cons x xs = refl
 
-pub weights-sum : (es : List Entry) → wsum (λ p. 1) (weightsOf (weighty es)) ≡ weight es
+pub weights-sum : (es : List Penalty) → wsum (λ p. 1) (weightsOf (weighty es)) ≡ bulk es
 unfolding total weighty
 weights-sum [] = refl
 weights-sum (e ∷ es) =
-    by-weight e es (λ xs. wsum (λ p. 1) (weightsOf xs) ≡ e .weight + weight es)
+    by-weight e es (λ xs. wsum (λ p. 1) (weightsOf xs) ≡ e .weight + bulk es)
     (λ h. omega (arith, weights-sum es)) (λ h. omega (arith, weights-sum es))
 
-pub weights-some : (es : List Entry) (p : ℕ) → p < length (weightsOf (weighty es)) → 1 ≤ getD (weightsOf (weighty es)) p 0
+pub weights-some : (es : List Penalty) (p : ℕ) → p < length (weightsOf (weighty es)) → 1 ≤ getD (weightsOf (weighty es)) p 0
 unfolding weighty
 weights-some [] p h = absurd (not-suc-le-zero h)
 weights-some (e ∷ es) p h =
@@ -72,23 +73,23 @@ picked : (b : Bool) (w : ℕ) → pick b w 0 ≡ w * ind b
 picked true w = omega arith
 picked false w = omega arith
 
-pub cost-weighty : (M : Set) (es : List Entry) → cost M es ≡ wsum (λ p. ind (holds M (getD (map (λ (e : Entry). e .literal) (weighty es)) p (pos 0)))) (weightsOf (weighty es))
+pub charge-weighty : (M : Set) (es : List Penalty) → charge M es ≡ wsum (λ p. ind (holds M (getD (map (λ (e : Penalty). e .literal) (weighty es)) p (pos 0)))) (weightsOf (weighty es))
 unfolding total weighty
-cost-weighty M [] = refl
-cost-weighty M (e ∷ es) =
-    by-weight e es (λ xs. entryCost M e + cost M es ≡ wsum (λ p. ind (holds M (getD (map (λ (x : Entry). x .literal) xs) p (pos 0)))) (weightsOf xs))
-    (λ h. omega (arith, picked (holds M (e .literal)) (e .weight), cost-weighty M es))
-    (λ h. omega (arith, picked (holds M (e .literal)) (e .weight), cost-weighty M es, ap (λ (z : ℕ). z * ind (holds M (e .literal))) h))
+charge-weighty M [] = refl
+charge-weighty M (e ∷ es) =
+    by-weight e es (λ xs. penaltyCharge M e + charge M es ≡ wsum (λ p. ind (holds M (getD (map (λ (x : Penalty). x .literal) xs) p (pos 0)))) (weightsOf xs))
+    (λ h. omega (arith, picked (holds M (e .literal)) (e .weight), charge-weighty M es))
+    (λ h. omega (arith, picked (holds M (e .literal)) (e .weight), charge-weighty M es, ap (λ (z : ℕ). z * ind (holds M (e .literal))) h))
 
 -- a set costs at most the level's weight
-pub cost-le : (M : Set) (es : List Entry) → cost M es ≤ weight es
+pub charge-le : (M : Set) (es : List Penalty) → charge M es ≤ bulk es
 unfolding total
-cost-le M [] = zero-le
-cost-le M (e ∷ es) =
-    elim (holds M (e .literal)) as (λ b. pick b (e .weight) 0 + cost M es ≤ e .weight + weight es)
-    [ true ↦ omega (arith, cost-le M es) | false ↦ omega (arith, cost-le M es) ]
+charge-le M [] = zero-le
+charge-le M (e ∷ es) =
+    elim (holds M (e .literal)) as (λ b. pick b (e .weight) 0 + charge M es ≤ e .weight + bulk es)
+    [ true ↦ omega (arith, charge-le M es) | false ↦ omega (arith, charge-le M es) ]
 
-pub length-weighty : (es : List Entry) → length (weighty es) ≤ length es
+pub length-weighty : (es : List Penalty) → length (weighty es) ≤ length es
 unfolding weighty
 length-weighty [] = zero-le
 length-weighty (e ∷ es) = by-weight e es (λ xs. length xs ≤ suc (length es)) (λ h. omega (arith, length-weighty es)) (λ h. omega (arith, length-weighty es))
@@ -102,11 +103,11 @@ length-level q (e ∷ es) =
 
 -- ---- the soft literals of a level that is opened
 
-module _ (es : List Entry) where
-  entry-at : (p : ℕ) → kindAt (kindsOf es) p ≡ entry (getD (map (λ (e : Entry). e .literal) es) p (pos 0))
+module _ (es : List Penalty) where
+  entry-at : (p : ℕ) → kindAt (kindsOf es) p ≡ entry (getD (map (λ (e : Penalty). e .literal) es) p (pos 0))
   entry-at p = go es p
     where
-      go : (es : List Entry) (p : ℕ) → kindAt (kindsOf es) p ≡ entry (getD (map (λ (e : Entry). e .literal) es) p (pos 0))
+      go : (es : List Penalty) (p : ℕ) → kindAt (kindsOf es) p ≡ entry (getD (map (λ (e : Penalty). e .literal) es) p (pos 0))
       go [] p = refl
       go (e ∷ es) zero = refl
       go (e ∷ es) (suc p) = go es p
@@ -118,15 +119,15 @@ module _ (es : List Entry) where
   no-core zero = tt
   no-core (suc j) = tt
 
-  entry-violated : (M : Set) (p : ℕ) → violated M (kindsOf es) [] p ≡ holds M (getD (map (λ (e : Entry). e .literal) es) p (pos 0))
+  entry-violated : (M : Set) (p : ℕ) → violated M (kindsOf es) [] p ≡ holds M (getD (map (λ (e : Penalty). e .literal) es) p (pos 0))
   unfolding violated
   entry-violated M p = ap (judge M [] (λ q. false)) (entry-at p)
 
 -- THE IDENTITY HOLDS WHEN A LEVEL IS OPENED
-pub opened-good : (Model : Set → Type 0) (es : List Entry) → Good (problem Model es) (opened es)
+pub opened-good : (Model : Set → Type 0) (es : List Penalty) → Good (problem Model es) (opened es)
 opened-good Model es = record {
-  as-long = length-map (weighty es) (λ (e : Entry). entry (e .literal)) ∙ sym (length-map (weighty es) (λ (e : Entry). e .weight));
+  as-long = length-map (weighty es) (λ (e : Penalty). entry (e .literal)) ∙ sym (length-map (weighty es) (λ (e : Penalty). e .weight));
   ordered = record { cores = entry-number (weighty es); members = no-core (weighty es) };
-  identity = λ M h. cost-weighty M es ∙ wsum-ext _ _ (weightsOf (weighty es)) (λ p q. ap ind (sym (entry-violated (weighty es) M p))) ∙ sym (zero-add _);
+  identity = λ M h. charge-weighty M es ∙ wsum-ext _ _ (weightsOf (weighty es)) (λ p q. ap ind (sym (entry-violated (weighty es) M p))) ∙ sym (zero-add _);
   weighs = zero-add _ ∙ weights-sum es;
 }

@@ -9,8 +9,8 @@ use native.Mathlib.Omega.{arith}
 use lib.Dec.{eqb, ltb}
 use lib.IntN.{pos}
 use Rattle.asp.specs.Sets.{Set}
-use Rattle.asp.specs.Program.{Entry}
-use Rattle.asp.specs.Cost.{cost, total}
+use Rattle.asp.specs.Penalty.{Penalty, charge}
+use Rattle.asp.specs.Cost.{total}
 use Rattle.cores.specs.Soft.{entry, derived, violated}
 use Rattle.cores.specs.Level.{Level, weighty, opened, recorded, coreFits}
 use Rattle.cores.specs.Identity.{problem, Good, Core, violatedWeight}
@@ -19,11 +19,11 @@ use Rattle.cores.proofs.Open.{opened-good}
 use Rattle.cores.proofs.Limits.{lower-bounds}
 use Rattle.cores.proofs.Members.{distinctb-yes, heavyb-yes}
 
-abbrev pay : ℕ → ℕ → Entry
-pay a w = record { priority = pos 0; literal = pos a; weight = w }
+abbrev pay : ℕ → ℕ → Penalty
+pay a w = record { literal = pos a; weight = w }
 
 -- three entries: atoms 1, 2 and 3 cost 7, 5 and 5
-abbrev pub sevenFiveFive : List Entry
+abbrev pub sevenFiveFive : List Penalty
 sevenFiveFive = pay 1 7 ∷ pay 2 5 ∷ pay 3 5 ∷ []
 
 abbrev pub sampleBefore : Level
@@ -80,11 +80,11 @@ pub sample-unmet : map (violated everything (sampleAfter .kinds) (sampleAfter .c
 unfolding weighty violated
 sample-unmet = refl
 
-pub sample-cost : cost everything sevenFiveFive ≡ 17
+pub sample-cost : charge everything sevenFiveFive ≡ 17
 unfolding total
 sample-cost = refl
 
-pub sample-identity : cost everything sevenFiveFive ≡ sampleAfter .lower + violatedWeight everything sampleAfter
+pub sample-identity : charge everything sevenFiveFive ≡ sampleAfter .lower + violatedWeight everything sampleAfter
 unfolding total weighty violated
 sample-identity = refl
 
@@ -109,7 +109,7 @@ sample-core = record {
 pub sample-good : Good (problem Some sevenFiveFive) sampleAfter
 sample-good = kept (problem Some sevenFiveFive) sampleBefore 5 sampleCore (opened-good Some sevenFiveFive) sample-core
 
-pub sample-bound : (M : Set) → Some M → 5 ≤ cost M sevenFiveFive
+pub sample-bound : (M : Set) → Some M → 5 ≤ charge M sevenFiveFive
 sample-bound M h = lower-bounds (problem Some sevenFiveFive) sampleAfter sample-good M h
 
 -- ---- members with more than the stratum: remaining 9, 7, 7 at stratum 5 leave 4, 2, 2 and two new of 5; with all unmet 23 = 5 + 8 + 10

@@ -4,8 +4,8 @@ use mathlib.Core.List.{List}
 use Prim.Native.Nat.{ℕ, _+_, _≤_}
 use lib.ListN.{length}
 use Rattle.asp.specs.Sets.{Set, ind}
-use Rattle.asp.specs.Program.{Entry, All, Distinct}
-use Rattle.asp.specs.Cost.{cost, weight}
+use Rattle.asp.specs.Program.{All, Distinct}
+use Rattle.asp.specs.Penalty.{Penalty, charge, bulk}
 use Rattle.cores.specs.Sums.{wsum, Holds}
 use Rattle.cores.specs.Soft.{violated, countBy, InOrder}
 use Rattle.cores.specs.Level.{Level}
@@ -25,8 +25,8 @@ pub record Problem : Type 1 where
   pub whole : ℕ
 
 -- the problem of a class of models on the level of the entries es
-abbrev pub problem : (Set → Type 0) → List Entry → Problem
-problem Model es = record { Model = Model; costOf = λ M. cost M es; whole = weight es }
+abbrev pub problem : (Set → Type 0) → List Penalty → Problem
+problem Model es = record { Model = Model; costOf = λ M. charge M es; whole = bulk es }
 
 module _ (P : Problem) where
   open Problem P using (Model, costOf, whole)

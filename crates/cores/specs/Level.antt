@@ -7,7 +7,8 @@ use lib.Dec.{ltb, leb}
 use lib.ListN.{length, replicate}
 use Rattle.asp.specs.Sets.{pick}
 use lib.IntN.{natAbs}
-use Rattle.asp.specs.Program.{Entry, All}
+use Rattle.asp.specs.Program.{All}
+use Rattle.asp.specs.Penalty.{Penalty}
 use Rattle.cores.specs.Sums.{lose}
 use Rattle.cores.specs.Soft.{Kind, entry, derived}
 
@@ -18,15 +19,15 @@ pub record Level : Type 0 where
   pub cores : List (List ℕ)
   pub lower : ℕ
 
--- ---- opening: "each entry with weight above 0 is a wish for its literal's complement"
+-- ---- opening: "each entry with weight above 0 is a wish for its literal's complement"; the entries come as penalties
 
-unfoldable pub weighty : List Entry → List Entry
+unfoldable pub weighty : List Penalty → List Penalty
 weighty [] = []
 weighty (e ∷ es) = pick (ltb 0 (e .weight)) (e ∷ weighty es) (weighty es)
 
 -- "Both tables are emptied for each level."
-abbrev pub opened : List Entry → Level
-opened es = record { kinds = map (λ (e : Entry). entry (e .literal)) (weighty es); rests = map (λ (e : Entry). e .weight) (weighty es); cores = []; lower = 0 }
+abbrev pub opened : List Penalty → Level
+opened es = record { kinds = map (λ (e : Penalty). entry (e .literal)) (weighty es); rests = map (λ (e : Penalty). e .weight) (weighty es); cores = []; lower = 0 }
 
 -- ---- the stratum
 
@@ -81,9 +82,9 @@ coreFits k h n = leb (k + (n - 1)) 4096 && leb (h + n) 4096
 abbrev pub room : Level → List ℕ → Bool
 room l ms = coreFits (length (l .kinds)) (held (l .cores)) (length ms)
 
--- ---- the entries of a text: at most 512, of atoms 1 to 1,024, with weights of at most 1,000,000
+-- ---- the penalties of a text: at most 512, of atoms 1 to 1,024, with weights of at most 1,000,000
 
-pub record FormedEntries (es : List Entry) : Type 0 where
+pub record FormedPenalties (es : List Penalty) : Type 0 where
   pub few : length es ≤ 512
-  pub atoms : All (λ (e : Entry). natAbs (e .literal) ≤ 1024) es
-  pub weights : All (λ (e : Entry). e .weight ≤ 1000000) es
+  pub atoms : All (λ (e : Penalty). natAbs (e .literal) ≤ 1024) es
+  pub weights : All (λ (e : Penalty). e .weight ≤ 1000000) es

@@ -11,7 +11,7 @@ use Rattle.asp.specs.Program.{Literal, All}
 use Rattle.asp.specs.Stable.{holds}
 use Rattle.cores.specs.Sums.{sumOver}
 
--- A soft literal. `entry l`: "each entry with weight above 0 is a wish for its literal's complement"; l is the entry's literal, which violates it.
+-- A soft literal. `entry l`: "each entry with weight above 0 is a wish for its literal's complement"; l is the literal of the entry's penalty, which violates it.
 -- `derived j i`: a derived wish, the i-th of core j, both counted from 1.
 pub data Kind : Type 0 where
   entry : Literal → Kind

@@ -9,7 +9,8 @@ use Prim.Native.Nat.{ℕ, zero, suc, _+_, _-_, _≤_, _<_}
 use lib.IntN.{ℤ, pos, natAbs}
 use lib.ListN.{length, getD, set, take, replicate}
 use lib.Seq.{sets}
-use Rattle.asp.specs.Program.{Literal, Entry, All}
+use Rattle.asp.specs.Program.{Literal, All}
+use Rattle.asp.specs.Penalty.{Penalty, paidLiteral}
 use Rattle.asp.specs.Tables.{span}
 use Rattle.cores.specs.declared.soft.Soft.{Soft}
 use Rattle.cores.specs.declared.level.LevelTables.{LevelTables}
@@ -34,10 +35,10 @@ abbrev pub emptyTables : LevelTables
 emptyTables = record { softs = replicate 4096 noSoft; members = replicate 4096 0; ends = replicate 4097 0; count = 0; cores = 0; lower = 0 }
 
 -- a level is opened: its soft literals at the front of the emptied table
-abbrev pub softsOf : List Entry → List Soft
-softsOf es = map (λ (e : Entry). entrySoft (e .literal) (e .weight)) (weighty es)
+abbrev pub softsOf : List Penalty → List Soft
+softsOf es = map (λ (e : Penalty). entrySoft (e .literal) (e .weight)) (weighty es)
 
-abbrev pub openedTables : List Entry → LevelTables
+abbrev pub openedTables : List Penalty → LevelTables
 openedTables es = record {
   softs = sets (replicate 4096 noSoft) 0 (softsOf es);
   members = replicate 4096 0;
@@ -47,9 +48,13 @@ openedTables es = record {
   lower = 0;
 }
 
--- entry i is of the level of a priority, with weight above 0
-abbrev pub countsAt : List ℤ → List ℕ → ℕ → ℤ → Bool
-countsAt priorities weights i q = sameℤ q (getD priorities i (pos 0)) && ltb 0 (getD weights i 0)
+-- entry i is of the level of a priority, with a weight that is not 0
+abbrev pub countsAt : List ℤ → List ℤ → ℕ → ℤ → Bool
+countsAt priorities weights i q = sameℤ q (getD priorities i (pos 0)) && ltb 0 (natAbs (getD weights i (pos 0)))
+
+-- the soft literal of entry i, which its penalty's literal violates
+abbrev pub softAt : List ℤ → List ℤ → ℕ → Soft
+softAt literals weights i = entrySoft (paidLiteral (getD literals i (pos 0)) (getD weights i (pos 0))) (natAbs (getD weights i (pos 0)))
 
 -- each member loses s
 unfoldable pub lighten : ℕ → List ℕ → List Soft → List Soft

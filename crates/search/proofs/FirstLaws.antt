@@ -1,4 +1,4 @@
--- The loops that mark the atoms to try in first, and drop those that an entry pays for. Assumes nothing.
+-- The loops that mark the atoms to try in first, and drop those that a penalty stands on. Assumes nothing.
 use mathlib.Core.Path.{_≡_, refl, sym, _∙_}
 use mathlib.Core.Bool.{Bool, true, false, not, _&&_, _||_}
 use mathlib.Core.List.{List, [], _∷_}
@@ -13,7 +13,8 @@ use lib.Seq.{getD-set-same, getD-set-other}
 use borrow.Author.Tests.{eq-eqb, ne-eqb, lt-ltb, le-ltb}
 use Rattle.asp.specs.Sets.{Set, In, setOf}
 use Rattle.asp.specs.Literal.{sameℤ, isNegative}
-use Rattle.asp.specs.Program.{Rule, Entry, All}
+use Rattle.asp.specs.Program.{Rule, All}
+use Rattle.asp.specs.Penalty.{Penalty, penalty, penalties}
 use Rattle.asp.specs.Stable.{member, listed}
 use Rattle.asp.specs.Tables.{span, named, atomsAt, rowAt, plainHead, ruleAt, rulesOf, entryAt, entriesOf}
 use Rattle.asp.proofs.Spans.{span-more, span-none, span-whole, span-at}
@@ -180,7 +181,7 @@ module _ {pool : List ℤ} {rows : List ℕ} {count r : ℕ} {xs ys : List ℕ} 
 without-none : (X : Set) {xs : List ℕ} → length xs ≡ 1025 → ((a : ℕ) → X a ≡ false) → Without X xs xs
 without-none X {xs} l n = record { long = l; each = λ a. rw (n a) (sym (and-true (setOf xs a))) }
 
-module _ (e : Entry) {xs : List ℕ} (l : length xs ≡ 1025) where
+module _ (e : Penalty) {xs : List ℕ} (l : length xs ≡ 1025) where
   pub entry-free : e .weight ≤ 0 → Without (paysFor e) xs xs
   entry-free h = without-none (paysFor e) l (λ a. rw (le-ltb 0 (e .weight) h) (and-false (sameℤ (e .literal) (pos a))))
 
@@ -201,25 +202,25 @@ module _ (e : Entry) {xs : List ℕ} (l : length xs ≡ 1025) where
 
 -- ---- the loop over the entries
 
-module _ (priorities literals : List ℤ) (weights : List ℕ) where
+module _ (priorities literals weights : List ℤ) where
   pub record Dropping (count i : ℕ) (xs ys : List ℕ) : Type 0 where
     pub long : length ys ≡ 1025
-    pub rest : (a : ℕ) → (setOf ys a && not (paidFor (span (entryAt priorities literals weights) i (count - i)) a)) ≡ (setOf xs a && not (paidFor (entriesOf priorities literals weights count) a))
+    pub rest : (a : ℕ) → (setOf ys a && not (paidFor (penalties (span (entryAt priorities literals weights) i (count - i))) a)) ≡ (setOf xs a && not (paidFor (penalties (entriesOf priorities literals weights count)) a))
 
   pub dropping-start : (count : ℕ) {xs : List ℕ} → length xs ≡ 1025 → Dropping count 0 xs xs
   dropping-start count l = record { long = l; rest = λ a. rw sub-zero }
 
-module _ {priorities literals : List ℤ} {weights : List ℕ} {count i : ℕ} {xs ys : List ℕ} (d : Dropping priorities literals weights count i xs ys) where
-  pub dropping-next : i < count → {zs : List ℕ} → Without (paysFor (entryAt priorities literals weights i)) ys zs → Dropping priorities literals weights count (i + 1) xs zs
+module _ {priorities literals weights : List ℤ} {count i : ℕ} {xs ys : List ℕ} (d : Dropping priorities literals weights count i xs ys) where
+  pub dropping-next : i < count → {zs : List ℕ} → Without (paysFor (penalty (entryAt priorities literals weights i))) ys zs → Dropping priorities literals weights count (i + 1) xs zs
   unfolding paidFor
   dropping-next h w = record {
     long = w .long;
     rest = λ a.
-        rw (w .each a, without-both (setOf ys a) (paysFor (entryAt priorities literals weights i) a) (paidFor (span (entryAt priorities literals weights) (i + 1) (count - (i + 1))) a))
+        rw (w .each a, without-both (setOf ys a) (paysFor (penalty (entryAt priorities literals weights i)) a) (paidFor (penalties (span (entryAt priorities literals weights) (i + 1) (count - (i + 1)))) a))
         (rw (span-more (entryAt priorities literals weights) i count h) at (d .rest a));
   }
 
-  pub dropping-done : count ≤ i → Without (paidFor (entriesOf priorities literals weights count)) xs ys
+  pub dropping-done : count ≤ i → Without (paidFor (penalties (entriesOf priorities literals weights count))) xs ys
   unfolding paidFor
   dropping-done h = record { long = d .long; each = λ a. rw (span-none (entryAt priorities literals weights) i count h, and-true) at (d .rest a) }
 
@@ -230,5 +231,5 @@ none-in zero a = refl
 none-in (suc n) zero = refl
 none-in (suc n) (suc a) = none-in n a
 
-pub first-tried : (n : ℕ) (rs : List Rule) (es : List Entry) {ys zs : List ℕ} → With (freelyChosen rs) (replicate n 0) ys → Without (paidFor es) ys zs → (a : ℕ) → setOf zs a ≡ triedFirst rs es a
+pub first-tried : (n : ℕ) (rs : List Rule) (es : List Penalty) {ys zs : List ℕ} → With (freelyChosen rs) (replicate n 0) ys → Without (paidFor es) ys zs → (a : ℕ) → setOf zs a ≡ triedFirst rs es a
 first-tried n rs es w v a = v .each a ∙ rw (w .each a, none-in n a)

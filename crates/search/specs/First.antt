@@ -1,4 +1,4 @@
--- The atoms that a free branch tries in first: those that a choice rule without a body chooses, unless an entry pays for them. Document 01 leaves branching free;
+-- The atoms that a free branch tries in first: those that a choice rule without a body chooses, unless a penalty stands on them. Document 01 leaves branching free;
 -- docs/DECISIONS.md says why this way. Assumes nothing: these are definitions.
 use mathlib.Core.Path.{_≡_}
 use mathlib.Core.Bool.{Bool, true, false, not, _&&_, _||_}
@@ -9,7 +9,8 @@ use lib.IntN.{pos}
 use lib.ListN.{length}
 use Rattle.asp.specs.Sets.{Set, setOf}
 use Rattle.asp.specs.Literal.{sameℤ}
-use Rattle.asp.specs.Program.{Body, normal, Head, constraint, plain, choice, Rule, Entry}
+use Rattle.asp.specs.Program.{Body, normal, Head, constraint, plain, choice, Rule}
+use Rattle.asp.specs.Penalty.{Penalty}
 use Rattle.asp.specs.Stable.{member}
 
 -- a rule without a body
@@ -30,16 +31,16 @@ unfoldable pub freelyChosen : List Rule → Set
 freelyChosen [] a = false
 freelyChosen (r ∷ rs) a = freelyChosenBy r a || freelyChosen rs a
 
--- an entry that costs something where the atom is in
-abbrev pub paysFor : Entry → Set
-paysFor e a = sameℤ (e .literal) (pos a) && ltb 0 (e .weight)
+-- a penalty that costs something where the atom is in
+abbrev pub paysFor : Penalty → Set
+paysFor p a = sameℤ (p .literal) (pos a) && ltb 0 (p .weight)
 
-unfoldable pub paidFor : List Entry → Set
+unfoldable pub paidFor : List Penalty → Set
 paidFor [] a = false
-paidFor (e ∷ es) a = paysFor e a || paidFor es a
+paidFor (p ∷ ps) a = paysFor p a || paidFor ps a
 
-abbrev pub triedFirst : List Rule → List Entry → Set
-triedFirst rs es a = freelyChosen rs a && not (paidFor es a)
+abbrev pub triedFirst : List Rule → List Penalty → Set
+triedFirst rs ps a = freelyChosen rs a && not (paidFor ps a)
 
 -- ---- what a pass does to a table of bytes by atom, from xs to ys
 

@@ -1,5 +1,6 @@
 // The atoms that a free branch tries in first (specs/First.antt).
 use asp::literal;
+use asp::penalty;
 use asp::table;
 ghost use mathlib.Core.Path.{_≡_};
 ghost use Prim.Native.Nat.{ℕ, _+_, _≤_, _<_};
@@ -7,6 +8,7 @@ ghost use lib.ListN.{length, getD};
 ghost use lib.IntN.{pos, natAbs};
 ghost use Rattle.asp.specs.Sets.{setOf, In};
 ghost use Rattle.asp.specs.Program.{All};
+ghost use Rattle.asp.specs.Penalty.{penalty, penalties};
 ghost use Rattle.asp.specs.Stable.{listed};
 ghost use Rattle.asp.specs.Tables.{atomsAt, rowAt, ruleAt, rulesOf, entryAt, entriesOf};
 ghost use Rattle.asp.specs.Growth.{RuleFormed, RulesFormed};
@@ -64,7 +66,7 @@ fn choose_all<'a>(pool: &'a [i32], rows: &'a [u16], count: usize, tried: &mut [u
 fn drop_entry<'a>(
     priorities: &'a [i32],
     literals: &'a [i32],
-    weights: &'a [u32],
+    weights: &'a [i32],
     i: usize,
     tried: &mut [u8; 1025],
 )
@@ -72,10 +74,10 @@ fn drop_entry<'a>(
     requires { ⌜ i < length (now weights) ⌝ }
     requires { ⌜ natAbs (getD (now literals) i (pos 0)) ≤ 1024 ⌝ }
     requires { ⌜ length (now tried) ≡ 1025 ⌝ }
-    ensures { λ r. ⌜ Without (paysFor (entryAt (now (priorities .entry)) (now (literals .entry)) (now (weights .entry)) i)) (now (tried .entry)) (now (tried .exit)) ⌝ }
+    ensures { λ r. ⌜ Without (paysFor (penalty (entryAt (now (priorities .entry)) (now (literals .entry)) (now (weights .entry)) i))) (now (tried .entry)) (now (tried .exit)) ⌝ }
 {
-    if 0 < weights[i] {
-        let l = table::literal_at(literals, i);
+    if 0 < penalty::weight_at(weights, i) {
+        let l = penalty::literal_at(literals, weights, i);
         if !literal::is_negative(l) {
             let a = literal::atom(l);
             tried[a] = 0;
@@ -87,13 +89,13 @@ fn drop_entry<'a>(
 fn drop_paid<'a>(
     priorities: &'a [i32],
     literals: &'a [i32],
-    weights: &'a [u32],
+    weights: &'a [i32],
     count: usize,
     tried: &mut [u8; 1025],
 )
     requires { ⌜ EntriesFormed (now priorities) (now literals) (now weights) count ⌝ }
     requires { ⌜ length (now tried) ≡ 1025 ⌝ }
-    ensures { λ r. ⌜ Without (paidFor (entriesOf (now (priorities .entry)) (now (literals .entry)) (now (weights .entry)) count)) (now (tried .entry)) (now (tried .exit)) ⌝ }
+    ensures { λ r. ⌜ Without (paidFor (penalties (entriesOf (now (priorities .entry)) (now (literals .entry)) (now (weights .entry)) count))) (now (tried .entry)) (now (tried .exit)) ⌝ }
 {
     let mut i: usize = 0;
     while i < count {
@@ -109,12 +111,12 @@ pub fn tried_first<'a>(
     rulecount: usize,
     priorities: &'a [i32],
     literals: &'a [i32],
-    weights: &'a [u32],
+    weights: &'a [i32],
     entrycount: usize,
 ) -> [u8; 1025]
     requires { ⌜ RulesFormed (now pool) (now rows) rulecount ⌝ }
     requires { ⌜ EntriesFormed (now priorities) (now literals) (now weights) entrycount ⌝ }
-    ensures { λ r. ⌜ ((a : ℕ) → setOf r a ≡ triedFirst (rulesOf (now (pool .entry)) (now (rows .entry)) rulecount) (entriesOf (now (priorities .entry)) (now (literals .entry)) (now (weights .entry)) entrycount) a) ⌝ }
+    ensures { λ r. ⌜ ((a : ℕ) → setOf r a ≡ triedFirst (rulesOf (now (pool .entry)) (now (rows .entry)) rulecount) (penalties (entriesOf (now (priorities .entry)) (now (literals .entry)) (now (weights .entry)) entrycount)) a) ⌝ }
 {
     let mut tried = [0u8; 1025];
     choose_all(pool, rows, rulecount, &mut tried);
