@@ -39,6 +39,14 @@ pub fn is_less(a: i64, b: i64) -> bool
     a < b
 }
 
+// Whether two tables have the same figure at place `i`.
+pub fn equal_at<'a>(a: &'a [i64], b: &'a [i64], i: usize) -> bool
+    requires { ⌜ (i < length (now a)) × (i < length (now b)) ⌝ }
+    ensures { λ r. ⌜ r ≡ sameℤ (getD (now (a .entry)) i (pos 0)) (getD (now (b .entry)) i (pos 0)) ⌝ }
+{
+    equal(figure_at(a, i), figure_at(b, i))
+}
+
 // A figure of a table.
 pub fn figure_at(t: &[i64], i: usize) -> i64
     requires { ⌜ i < length (now t) ⌝ }

@@ -1,5 +1,5 @@
 -- The level in work: opening it, the stratum and its fall, recording a core, the limits. Document 01, "Wishes and cores".
--- Assumes nothing: these are definitions.
+-- Bounds are natural: how far they lie above the level's start (order 1). Assumes nothing: these are definitions.
 use mathlib.Core.Bool.{Bool, _&&_}
 use mathlib.Core.List.{List, [], _∷_, _++_, map}
 use Prim.Native.Nat.{ℕ, zero, suc, _+_, _-_, _≤_, max}

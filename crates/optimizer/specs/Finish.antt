@@ -4,10 +4,14 @@ use mathlib.Core.Path.{_≡_}
 use mathlib.Core.Bool.{Bool, true, false, _&&_}
 use mathlib.Core.List.{List, _++_}
 use Prim.Native.Nat.{ℕ, zero, suc, _+_, _-_, _<_}
-use lib.Dec.{eqb, ltb}
+use lib.Dec.{ltb}
+use lib.IntN.{ℤ, pos}
+use lib.Signed.{ltZ}
 use lib.ListN.{length, getD, set, take, drop, replicate}
 use Rattle.asp.specs.Sets.{setOf, pick}
+use Rattle.asp.specs.Literal.{sameℤ}
 use Rattle.asp.specs.Cost.{costsAt, cheaper}
+use Rattle.asp.specs.Penalty.{above}
 use Rattle.asp.specs.Tables.{literalsAt}
 use Rattle.cores.specs.Level.{greatest, under, coreFits}
 use Rattle.cores.specs.declared.level.LevelTables.{LevelTables}
@@ -18,7 +22,7 @@ use Rattle.optimizer.specs.declared.state.Work.{Work}
 use Rattle.optimizer.specs.declared.state.Turn.{Turn}
 use Rattle.optimizer.specs.declared.state.Turn.the-variants.{Going, Without, Model}
 use Rattle.optimizer.specs.declared.finish.Ending.{Ending}
-use Rattle.optimizer.specs.Source.{Levels, many, entriesIn, levelAt}
+use Rattle.optimizer.specs.Source.{Levels, many, entriesIn, penaltiesAt}
 use Rattle.optimizer.specs.State.{work}
 
 -- the phase, and what stands still in it
@@ -31,38 +35,38 @@ placed p w = record { phase = p; work = w }
 
 -- ---- levels are opened and settled
 
--- the first level, among k from place j on, on which the best model costs more than 0; the place after them if there is none
-unfoldable pub nextFrom : List ℕ → ℕ → ℕ → ℕ
-nextFrom uppers j zero = j
-nextFrom uppers j (suc k) = pick (eqb (getD uppers j 0) 0) (nextFrom uppers (j + 1) k) j
+-- the first level, among k from place j on, on which the bounds are not equal; the place after them if there is none
+unfoldable pub nextFrom : List ℤ → List ℤ → ℕ → ℕ → ℕ
+nextFrom lowers uppers j zero = j
+nextFrom lowers uppers j (suc k) = pick (sameℤ (getD uppers j (pos 0)) (getD lowers j (pos 0))) (nextFrom lowers uppers (j + 1) k) j
 
 -- "Both tables are emptied for each level." "The stratum begins as the greatest remaining weight."
 abbrev pub begunAt : Levels → Work → ℕ → Work
-begunAt L w j = work j (openedTables (levelAt L j)) (greatest (levelOf (openedTables (levelAt L j)) .rests)) (w .lowers) (w .uppers) (w .best)
+begunAt L w j = work j (openedTables (penaltiesAt L j)) (greatest (levelOf (openedTables (penaltiesAt L j)) .rests)) (w .lowers) (w .uppers) (w .best)
 
 abbrev pub openAt : Levels → Work → ℕ → Placed
 openAt L w j = pick (ltb j (many L)) (placed Level (begunAt L w j)) (placed Optimum (work j (w .tables) (w .stratum) (w .lowers) (w .uppers) (w .best)))
 
--- the levels from place j on: those that the best model settles at 0 are passed over
+-- the levels from place j on: those that the best model settles where they start are passed over
 unfoldable pub openFrom : Levels → Work → ℕ → Placed
-openFrom L w j = openAt L w (nextFrom (w .uppers) j (many L - j))
+openFrom L w j = openAt L w (nextFrom (w .lowers) (w .uppers) j (many L - j))
 
 -- "settled, within the advance, when the best model's cost there equals its lower bound"
 unfoldable pub settleOf : Levels → Work → Placed
-settleOf L w = pick (eqb (getD (w .uppers) (w .level) 0) (w .tables .lower)) (openFrom L w (w .level + 1)) (placed Level w)
+settleOf L w = pick (sameℤ (getD (w .uppers) (w .level) (pos 0)) (getD (w .lowers) (w .level) (pos 0))) (openFrom L w (w .level + 1)) (placed Level w)
 
 -- ---- the end of a query with a model
 
 -- a set's costs, at the front of eight figures
-abbrev pub costsOf : Levels → List ℕ → List ℕ
-costsOf L v = costsAt (setOf v) (literalsAt (L .levels) 0 (many L)) (entriesIn L) ++ drop (many L) (replicate 8 0)
+abbrev pub costsOf : Levels → List ℕ → List ℤ
+costsOf L v = costsAt (setOf v) (literalsAt (L .levels) 0 (many L)) (entriesIn L) ++ drop (many L) (replicate 8 (pos 0))
 
 -- "A model becomes the best if it is the first or cheaper."
 abbrev pub withBest : Levels → Work → List ℕ → Work
 withBest L w v = work (w .level) (w .tables) (w .stratum) (w .lowers) (costsOf L v) v
 
 unfoldable pub betterOf : Levels → Work → List ℕ → Work
-betterOf L w v = pick (cheaper ltb (take (many L) (costsOf L v)) (take (many L) (w .uppers))) (withBest L w v) w
+betterOf L w v = pick (cheaper ltZ (take (many L) (costsOf L v)) (take (many L) (w .uppers))) (withBest L w v) w
 
 -- "If a model is found, the stratum falls to the greatest remaining weight below it."
 abbrev pub fallen : Work → Work
@@ -70,8 +74,9 @@ fallen w = work (w .level) (w .tables) (under (w .stratum) (levelOf (w .tables) 
 
 -- ---- the end of a query without a model
 
+-- "the lower bound rises by" the stratum
 abbrev pub withTables : Work → LevelTables → Work
-withTables w t = work (w .level) t (w .stratum) (set (w .lowers) (w .level) (t .lower)) (w .uppers) (w .best)
+withTables w t = work (w .level) t (w .stratum) (set (w .lowers) (w .level) (above (getD (w .lowers) (w .level) (pos 0)) (w .stratum))) (w .uppers) (w .best)
 
 abbrev pub triedWork : Levels → Work → Tried → Placed
 triedWork L w x = pick (x .full) (placed Full w) (settleOf L (withTables w (x .tables)))

@@ -8,9 +8,8 @@ use lib.Dec.{eqb}
 use lib.IntN.{ℤ, pos, negℤ}
 use lib.ListN.{length, getD}
 use Rattle.asp.specs.Sets.{Set, setOf, pick}
-use Rattle.asp.specs.Program.{Entry}
 use Rattle.asp.specs.Stable.{isStable, member, keep}
-use Rattle.asp.specs.Cost.{cost}
+use Rattle.asp.specs.Penalty.{Penalty, charge, rise}
 use Rattle.asp.specs.Tables.{span}
 use Rattle.search.specs.Trail.{Trail, trailSet}
 use Rattle.search.specs.Machine.{Verdict, conflict, wanted}
@@ -30,29 +29,29 @@ use Rattle.optimizer.specs.declared.state.Phase.{Phase}
 use Rattle.optimizer.specs.declared.state.Phase.the-variants.{First, Level, Optimum, Incoherent, Full}
 use Rattle.optimizer.specs.declared.state.Work.{Work}
 use Rattle.optimizer.specs.declared.state.Search.{Search}
-use Rattle.optimizer.specs.Source.{Levels, Source, many, levelAt, rulesIn, ruleTables, firstIn}
+use Rattle.optimizer.specs.Source.{Levels, Source, many, startAt, penaltiesAt, rulesIn, ruleTables, firstIn}
 use Rattle.optimizer.specs.Turn.{blamedOf}
 
--- ---- the levels before place j and their settled costs, newest first
+-- ---- the levels before place j and their settled costs, newest first: penalties, and how far the costs lie above where the levels start
 
-abbrev pub pastAt : Levels → ℕ → List (List Entry)
+abbrev pub pastAt : Levels → ℕ → List (List Penalty)
 pastAt L zero = []
-pastAt L (suc j) = levelAt L j ∷ pastAt L j
+pastAt L (suc j) = penaltiesAt L j ∷ pastAt L j
 
-abbrev pub settledAt : List ℕ → ℕ → List ℕ
-settledAt lowers zero = []
-settledAt lowers (suc j) = getD lowers j 0 ∷ settledAt lowers j
+abbrev pub settledAt : Levels → List ℤ → ℕ → List ℕ
+settledAt L lowers zero = []
+settledAt L lowers (suc j) = rise (startAt L j) (getD lowers j (pos 0)) ∷ settledAt L lowers j
 
 -- the levels from place j on
-abbrev pub laterAt : Levels → ℕ → List (List Entry)
-laterAt L j = span (levelAt L) j (many L - j)
+abbrev pub laterAt : Levels → ℕ → List (List Penalty)
+laterAt L j = span (penaltiesAt L) j (many L - j)
 
 -- what the work means
 abbrev pub workOf : Levels → Work → abstract.Work
 workOf L w = record {
   past = pastAt L (w .level);
-  settled = settledAt (w .lowers) (w .level);
-  level = levelAt L (w .level);
+  settled = settledAt L (w .lowers) (w .level);
+  level = penaltiesAt L (w .level);
   later = laterAt L (w .level + 1);
   tables = levelOf (w .tables);
   stratum = w .stratum;
@@ -64,7 +63,7 @@ workOf L w = record {
 abbrev pub meantBy : Levels → ℕ → Phase → Trail → List ℕ → Work → State
 meantBy L c First t ms w = first c t
 meantBy L c Level t ms w = working c (workOf L w) t ms
-meantBy L c Optimum t ms w = optimum c (pastAt L (w .level)) (settledAt (w .lowers) (w .level)) (setOf (w .best))
+meantBy L c Optimum t ms w = optimum c (pastAt L (w .level)) (settledAt L (w .lowers) (w .level)) (setOf (w .best))
 meantBy L c Incoherent t ms w = incoherent c
 meantBy L c Full t ms w = full c (workOf L w)
 
@@ -99,11 +98,11 @@ abbrev pub flagsBy : List ℕ → List ℕ → List ℕ
 flagsBy ms ps = map (λ (p : ℕ). pick (member p ms) 1 0) ps
 
 -- "has the settled cost on every settled level"
-abbrev pub costsBy : Set → List (List Entry) → List ℕ → Bool
+abbrev pub costsBy : Set → List (List Penalty) → List ℕ → Bool
 costsBy M [] [] = true
 costsBy M [] (b ∷ bs) = false
 costsBy M (l ∷ ls) [] = false
-costsBy M (l ∷ ls) (b ∷ bs) = eqb (cost M l) b && costsBy M ls bs
+costsBy M (l ∷ ls) (b ∷ bs) = eqb (charge M l) b && costsBy M ls bs
 
 -- all that are assumed are met, or the one to blame
 abbrev pub metOr : Judged → Verdict

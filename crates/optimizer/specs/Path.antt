@@ -5,7 +5,7 @@ use mathlib.Core.List.{List, [], _∷_}
 use mathlib.Core.Logic.{_⊎_}
 use mathlib.Core.Option.{Option, none, some}
 use Prim.Native.Nat.{ℕ, suc, _≤_, _<_}
-use lib.IntN.{ℤ, natAbs}
+use lib.IntN.{ℤ, pos, natAbs}
 use lib.ListN.{length, getD}
 use Rattle.asp.specs.Sets.{Set, In}
 use Rattle.asp.specs.Program.{All, Distinct}
@@ -24,7 +24,7 @@ use Rattle.optimizer.specs.declared.state.Phase.{Phase}
 use Rattle.optimizer.specs.declared.state.Phase.the-variants.{First, Level, Optimum, Incoherent, Full}
 use Rattle.optimizer.specs.declared.state.Work.{Work}
 use Rattle.optimizer.specs.declared.state.Search.{Search}
-use Rattle.optimizer.specs.Source.{Source, levelAt, levelsIn, rulesIn}
+use Rattle.optimizer.specs.Source.{Source, levelAt, penaltiesIn, rulesIn}
 use Rattle.optimizer.specs.Turn.{blamedOf}
 use Rattle.search.specs.Places.{freshPlaces}
 use Rattle.optimizer.specs.State.{freshBlame}
@@ -36,7 +36,7 @@ use Rattle.optimizer.specs.Meaning.{workOf, pathOf, meant, wishesBy, tes
 
 -- "has the settled cost on every settled level": the levels before the one in work, each at the lower bound at which it was settled
 abbrev pub Settled : Source → Work → Set → Type 0
-Settled S w M = (j : ℕ) → j < w .level → cost M (levelAt (S .levels) j) ≡ getD (w .lowers) j 0
+Settled S w M = (j : ℕ) → j < w .level → cost M (levelAt (S .levels) j) ≡ getD (w .lowers) j (pos 0)
 
 -- "A question assumes the wishes with remaining weight at least the stratum": m is the place of one
 abbrev pub Assumed : Work → ℕ → Type 0
@@ -54,7 +54,7 @@ Seeks S Optimum w M = ⊥
 Seeks S Incoherent w M = ⊥
 Seeks S Full w M = ⊥
 
--- "the question's wishes for an entry": the literal that each wishes for, which is the complement of the entry's
+-- "the question's wishes for an entry": the literal that each wishes for, which is the complement of its penalty's
 abbrev pub entryWishes : Phase → Work → List ℤ
 entryWishes First w = []
 entryWishes Level w = wishesBy (levelOf (w .tables)) (w .stratum)
@@ -121,8 +121,8 @@ EndsWithout S Full s = ⊥
 -- "on a wanted path, end it with that model": the first question's model opens the highest level (`openNext`); on a level "A model becomes the best if it is the
 -- first or cheaper", the stratum falls (`withModel`), and the level is settled or not (`settle`)
 abbrev pub EndsWith : Source → Phase → Search → Set → Type 0
-EndsWith S First s M = Ends S s (λ c. openNext c [] [] (levelsIn (S .levels)) M)
-EndsWith S Level s M = Ends S s (λ c. settle c (withModel (levelsIn (S .levels)) (workOf (S .levels) (s .work)) M))
+EndsWith S First s M = Ends S s (λ c. openNext c [] [] (penaltiesIn (S .levels)) M)
+EndsWith S Level s M = Ends S s (λ c. settle c (withModel (penaltiesIn (S .levels)) (workOf (S .levels) (s .work)) M))
 EndsWith S Optimum s M = ⊥
 EndsWith S Incoherent s M = ⊥
 EndsWith S Full s M = ⊥
@@ -171,7 +171,7 @@ countedBy Full c = c
 
 pub record IsMachine (S : Source) (s : Search) : Type 0 where
   pub exact : ExactAt S (s .phase) s
-  pub advances : (c : ℕ) → meant (S .levels) (countedBy (s .phase) c) (advanceOf S s) ≡ abstract.advance (levelsIn (S .levels)) (testsOf S) (meant (S .levels) c s)
+  pub advances : (c : ℕ) → meant (S .levels) (countedBy (s .phase) c) (advanceOf S s) ≡ abstract.advance (penaltiesIn (S .levels)) (testsOf S) (meant (S .levels) c s)
 
 -- ---- "If a core would pass either, it isn't recorded and the status is full": a core of the level in work that would pass a limit
 

@@ -51,8 +51,9 @@ turning x k from = record { turn = x; len = k; from = from }
 abbrev pub backedTo : ℕ → ℕ → Turning
 backedTo k from = pick (eqb k 0) (turning Without k from) (turning Going k from)
 
--- a core can be recorded: its places are in the table, none of it is lighter than the stratum, and the bound stays in range
+-- a core can be recorded: its places are in the table, none of it is lighter than the stratum, and the bounds stay in range
 pub record ReadyCore (w : Work) (ms : List ℕ) : Type 0 where
   pub counted : Counted (w .tables) (length ms)
   pub inside : All (λ m. m < 4096) ms
   pub bound : w .tables .lower + w .stratum ≤ 1000000000
+  pub figure : natAbs (getD (w .lowers) (w .level) (pos 0)) ≤ 2000000000

@@ -10,7 +10,7 @@ use Rattle.optimizer.specs.declared.state.Search.{Search}
 use Rattle.optimizer.specs.declared.state.Turn.the-variants.{Without}
 use Rattle.optimizer.specs.Source.{Source, many, FormedSource}
 use Rattle.optimizer.specs.Turn.{blamedOf, Turns, turnsOf}
-use Rattle.optimizer.specs.State.{freshSearch}
+use Rattle.optimizer.specs.State.{freshFor}
 use Rattle.optimizer.specs.Advance.{workQuery, finishTurn, advancesOf, madeBy}
 use Rattle.optimizer.specs.Ready.{ReadyQuery, GoodBlame, ReadyCore}
 
@@ -54,7 +54,7 @@ Steady S s = (j k : ℕ) → ReadyRun S k (advancesOf S j s)
 pub record Reached (S : Source) (s : Search) : Type 0 where
   pub source : FormedSource S
   pub made : ℕ
-  pub is : s ≡ advancesOf S made freshSearch
+  pub is : s ≡ advancesOf S made (freshFor (S .levels))
 
 -- "until the status is not running or the count equals the budget": the state, and the number of advances made
 abbrev pub runOf : Source → ℕ → Search → AfterRun

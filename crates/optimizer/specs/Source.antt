@@ -2,11 +2,12 @@
 use mathlib.Core.Path.{_≡_}
 use mathlib.Core.List.{List}
 use Prim.Native.Nat.{ℕ, _≤_}
-use lib.IntN.{ℤ, pos}
+use lib.IntN.{ℤ, pos, natAbs}
 use lib.ListN.{length, getD}
 use Rattle.asp.specs.Sets.{Set, setOf}
 use Rattle.asp.specs.Program.{Rule, Entry, All, LiteralIn}
-use Rattle.asp.specs.Cost.{level}
+use Rattle.asp.specs.Cost.{level, start}
+use Rattle.asp.specs.Penalty.{Penalty, penalties}
 use Rattle.asp.specs.Tables.{span, rulesOf, entriesOf, Formed}
 use Rattle.asp.specs.Paying.{EntriesFormed}
 use Rattle.search.specs.Scan.{Rules, rules}
@@ -20,10 +21,10 @@ pub record Levels : Type 0 where
   pub levels : List ℤ
   pub priorities : List ℤ
   pub literals : List ℤ
-  pub weights : List ℕ
+  pub weights : List ℤ
   pub entrycount : ℕ
 
-abbrev pub levelTables : List ℤ → List ℤ → List ℤ → List ℕ → ℕ → Levels
+abbrev pub levelTables : List ℤ → List ℤ → List ℤ → List ℤ → ℕ → Levels
 levelTables levels priorities literals weights entrycount = record { levels = levels; priorities = priorities; literals = literals; weights = weights; entrycount = entrycount }
 
 abbrev pub entriesIn : Levels → List Entry
@@ -39,6 +40,16 @@ levelAt L j = level (getD (L .levels) j (pos 0)) (entriesIn L)
 
 abbrev pub levelsIn : Levels → List (List Entry)
 levelsIn L = span (levelAt L) 0 (many L)
+
+-- where its bounds start, and its penalties: what it costs a set lies above the start by what they charge
+abbrev pub startAt : Levels → ℕ → ℤ
+startAt L j = start (levelAt L j)
+
+abbrev pub penaltiesAt : Levels → ℕ → List Penalty
+penaltiesAt L j = penalties (levelAt L j)
+
+abbrev pub penaltiesIn : Levels → List (List Penalty)
+penaltiesIn L = span (penaltiesAt L) 0 (many L)
 
 -- atoms 1 to n, the rules, the levels
 pub record Source : Type 0 where
@@ -59,7 +70,7 @@ ruleTables S = rules (S .pool) (S .rows) (S .rulecount)
 
 -- the atoms that a free branch tries in first
 abbrev pub firstIn : Source → Set
-firstIn S = triedFirst (rulesIn S) (entriesIn (S .levels))
+firstIn S = triedFirst (rulesIn S) (penalties (entriesIn (S .levels)))
 
 -- a table of them
 pub record Tries (S : Source) (tried : List ℕ) : Type 0 where
@@ -75,7 +86,7 @@ pub record FormedLevels (L : Levels) : Type 0 where
   pub entries : EntriesFormed (L .priorities) (L .literals) (L .weights) (L .entrycount)
   pub few : L .entrycount ≤ 512
   pub levels-few : many L ≤ 8
-  pub light : All (λ (e : Entry). e .weight ≤ 1000000) (entriesIn L)
+  pub light : All (λ (e : Entry). natAbs (e .weight) ≤ 1000000) (entriesIn L)
 
 pub record FormedSource (S : Source) : Type 0 where
   pub rules : Formed (S .n) (S .pool) (S .rows) (S .rulecount)

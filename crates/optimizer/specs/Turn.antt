@@ -8,6 +8,7 @@ use lib.IntN.{ℤ, pos, negℤ}
 use lib.ListN.{length, getD, set, take, drop}
 use Rattle.asp.specs.Sets.{Set, setOf, pick}
 use Rattle.asp.specs.Stable.{isStable, member}
+use Rattle.asp.specs.Literal.{sameℤ}
 use Rattle.asp.specs.Cost.{cost}
 use Rattle.search.specs.declared.trail.Places.{Places}
 use Rattle.search.specs.Places.{places, pushOf, backOf}
@@ -37,13 +38,13 @@ use Rattle.optimizer.specs.Source.{Source, rulesIn, ruleTables, levelAt,
 -- tables by which they are judged
 pub record QueryTables : Type 0 where
   pub level : ℕ
-  pub lowers : List ℕ
+  pub lowers : List ℤ
   pub wished : List ℤ
   pub places : List ℕ
   pub assumed : List ℕ
   pub judging : Judging
 
-abbrev pub queryTables : ℕ → List ℕ → List ℤ → List ℕ → List ℕ → Judging → QueryTables
+abbrev pub queryTables : ℕ → List ℤ → List ℤ → List ℕ → List ℕ → Judging → QueryTables
 queryTables level lowers wished ps as′ j = record { level = level; lowers = lowers; wished = wished; places = ps; assumed = as′; judging = j }
 
 -- "A question assumes the wishes with remaining weight at least the stratum": their places
@@ -58,11 +59,11 @@ entryPlaces t s = entriesAmong (levelJudging t .cores) (assumedIn t s)
 abbrev pub wishedIn : LevelTables → ℕ → List ℤ
 wishedIn t s = map (λ (p : ℕ). negℤ (getD (levelJudging t .literals) p (pos 0))) (entryPlaces t s)
 
-unfoldable pub queryOf : ℕ → List ℕ → LevelTables → ℕ → QueryTables
+unfoldable pub queryOf : ℕ → List ℤ → LevelTables → ℕ → QueryTables
 queryOf level lowers t s = queryTables level lowers (wishedIn t s) (entryPlaces t s) (assumedIn t s) (levelJudging t)
 
 -- the same from the columns of the tables: j, and the remaining weights
-abbrev pub queryBy : ℕ → List ℕ → Judging → List ℕ → ℕ → QueryTables
+abbrev pub queryBy : ℕ → List ℤ → Judging → List ℕ → ℕ → QueryTables
 queryBy level lowers j rests s =
     queryTables level lowers (map (λ (p : ℕ). negℤ (getD (j .literals) p (pos 0))) (entriesAmong (j .cores) (assumedFrom s 0 rests)))
     (entriesAmong (j .cores) (assumedFrom s 0 rests)) (assumedFrom s 0 rests) j
@@ -91,12 +92,12 @@ blamePlace ps p b = pick (member p (blamedOf b)) b (blameTables (flagged p 0 ps 
 -- ---- a full trail
 
 -- the settled levels cost what they are settled at: j of them from place i on; `f` is what the set costs on each
-unfoldable pub settledFrom : (ℕ → ℕ) → List ℕ → ℕ → ℕ → Bool
+unfoldable pub settledFrom : (ℕ → ℤ) → List ℤ → ℕ → ℕ → Bool
 settledFrom f lowers i zero = true
-settledFrom f lowers i (suc j) = eqb (f i) (getD lowers i 0) && settledFrom f lowers (i + 1) j
+settledFrom f lowers i (suc j) = sameℤ (f i) (getD lowers i (pos 0)) && settledFrom f lowers (i + 1) j
 
 -- "a stable model that has the settled cost on every settled level"
-abbrev pub inClass : Source → ℕ → List ℕ → Set → Bool
+abbrev pub inClass : Source → ℕ → List ℤ → Set → Bool
 inClass S level lowers M = isStable (S .n) (rulesIn S) M && settledFrom (λ j. cost M (levelAt (S .levels) j)) lowers 0 level
 
 abbrev pub softOrWanted : Judged → Judgement

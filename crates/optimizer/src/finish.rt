@@ -3,6 +3,7 @@
 use crate::state::Phase;
 use crate::state::Turn;
 use crate::state::Work;
+use asp::figure;
 use cores::level::LevelTables;
 use cores::recording;
 ghost use mathlib.Core.Path.{_≡_};
@@ -21,7 +22,7 @@ pub struct Ending {
     pub opens: bool,
     pub level: usize,
     pub stratum: u32,
-    pub uppers: [u64; 8],
+    pub uppers: [i64; 8],
     pub best: [u8; 1025],
 }
 
@@ -41,14 +42,14 @@ fn figures_of(phase: Phase, opens: bool, w: Work) -> Ending
     }
 }
 
-// The first level from place j on, below k, on which the best model costs more than 0; k if there is none.
-fn next_level(uppers: [u64; 8], j: usize, k: usize) -> usize
-    requires { ⌜ (j ≤ k) × (k ≤ 8) ⌝ }
-    ensures { λ r. ⌜ (r ≡ nextFrom uppers j (k - j)) × (r ≤ k) ⌝ }
+// The first level from place j on, below k, on which the bounds are not equal; k if there is none.
+fn next_level<'a>(lowers: &'a [i64; 8], uppers: &'a [i64; 8], j: usize, k: usize) -> usize
+    requires { ⌜ (j ≤ k) × (k ≤ 8) × (length (now lowers) ≡ 8) × (length (now uppers) ≡ 8) ⌝ }
+    ensures { λ r. ⌜ (r ≡ nextFrom (now (lowers .entry)) (now (uppers .entry)) j (k - j)) × (r ≤ k) ⌝ }
 {
     let mut i = j;
     while i < k {
-        if uppers[i] != 0 {
+        if !figure::equal_at(uppers, lowers, i) {
             return i;
         }
         i += 1;
@@ -56,12 +57,12 @@ fn next_level(uppers: [u64; 8], j: usize, k: usize) -> usize
     i
 }
 
-// The levels from place j on; those that the best model settles at 0 are passed over. After the last, the optimum.
+// The levels from place j on; those that the best model settles where they start are passed over. After the last, the optimum.
 fn open_from<'a>(
     levels: &'a [i32],
     priorities: &'a [i32],
     literals: &'a [i32],
-    weights: &'a [u32],
+    weights: &'a [i32],
     entrycount: usize,
     w: Work,
     j: usize,
@@ -69,9 +70,10 @@ fn open_from<'a>(
     requires { ⌜ FormedLevels (levelTables (now levels) (now priorities) (now literals) (now weights) entrycount) × (j ≤ length (now levels)) ⌝ }
     ensures { λ r. ⌜ Ends (levelTables (now (levels .entry)) (now (priorities .entry)) (now (literals .entry)) (now (weights .entry)) entrycount) w r (openFrom (levelTables (now (levels .entry)) (now (priorities .entry)) (now (literals .entry)) (now (weights .entry)) entrycount) w j) ⌝ }
 {
+    let lowers = w.lowers;
     let uppers = w.uppers;
     let mut x = w;
-    x.level = next_level(uppers, j, levels.len());
+    x.level = next_level(&lowers, &uppers, j, levels.len());
     if x.level < levels.len() {
         return figures_of(Phase::Level, true, x);
     }
@@ -83,17 +85,17 @@ fn settle<'a>(
     levels: &'a [i32],
     priorities: &'a [i32],
     literals: &'a [i32],
-    weights: &'a [u32],
+    weights: &'a [i32],
     entrycount: usize,
     w: Work,
 ) -> Ending
     requires { ⌜ FormedLevels (levelTables (now levels) (now priorities) (now literals) (now weights) entrycount) × (w .level < length (now levels)) ⌝ }
     ensures { λ r. ⌜ Ends (levelTables (now (levels .entry)) (now (priorities .entry)) (now (literals .entry)) (now (weights .entry)) entrycount) w r (settleOf (levelTables (now (levels .entry)) (now (priorities .entry)) (now (literals .entry)) (now (weights .entry)) entrycount) w) ⌝ }
 {
+    let lowers = w.lowers;
     let uppers = w.uppers;
     let level = w.level;
-    let tables = w.tables;
-    if uppers[level] == tables.lower {
+    if figure::equal_at(&uppers, &lowers, level) {
         return open_from(
             levels,
             priorities,
@@ -112,14 +114,14 @@ fn costs<'a>(
     levels: &'a [i32],
     priorities: &'a [i32],
     literals: &'a [i32],
-    weights: &'a [u32],
+    weights: &'a [i32],
     entrycount: usize,
     value: [u8; 1025],
-) -> [u64; 8]
+) -> [i64; 8]
     requires { ⌜ FormedLevels (levelTables (now levels) (now priorities) (now literals) (now weights) entrycount) ⌝ }
     ensures { λ r. ⌜ r ≡ costsOf (levelTables (now (levels .entry)) (now (priorities .entry)) (now (literals .entry)) (now (weights .entry)) entrycount) value ⌝ }
 {
-    let mut figures = [0u64; 8];
+    let mut figures = [0i64; 8];
     asp::cost::level_costs(
         levels,
         levels.len(),
@@ -138,7 +140,7 @@ fn with_best<'a>(
     levels: &'a [i32],
     priorities: &'a [i32],
     literals: &'a [i32],
-    weights: &'a [u32],
+    weights: &'a [i32],
     entrycount: usize,
     w: Work,
     value: [u8; 1025],
@@ -158,7 +160,7 @@ fn better<'a>(
     levels: &'a [i32],
     priorities: &'a [i32],
     literals: &'a [i32],
-    weights: &'a [u32],
+    weights: &'a [i32],
     entrycount: usize,
     w: Work,
     value: [u8; 1025],
@@ -188,7 +190,7 @@ fn finish_first<'a>(
     levels: &'a [i32],
     priorities: &'a [i32],
     literals: &'a [i32],
-    weights: &'a [u32],
+    weights: &'a [i32],
     entrycount: usize,
     w: Work,
     value: [u8; 1025],
@@ -212,7 +214,7 @@ fn with_model<'a>(
     levels: &'a [i32],
     priorities: &'a [i32],
     literals: &'a [i32],
-    weights: &'a [u32],
+    weights: &'a [i32],
     entrycount: usize,
     w: Work,
     below: u32,
@@ -237,7 +239,7 @@ fn finish_level<'a>(
     levels: &'a [i32],
     priorities: &'a [i32],
     literals: &'a [i32],
-    weights: &'a [u32],
+    weights: &'a [i32],
     entrycount: usize,
     recorded: bool,
     w: Work,
@@ -274,7 +276,7 @@ pub fn finish<'a>(
     levels: &'a [i32],
     priorities: &'a [i32],
     literals: &'a [i32],
-    weights: &'a [u32],
+    weights: &'a [i32],
     entrycount: usize,
     phase: Phase,
     recorded: bool,
@@ -353,7 +355,10 @@ pub fn recorded<'a>(w: Work, core: &'a [u16]) -> Work
     let t = recording::with_core(old, core, w.stratum);
     let level = w.level;
     let mut lowers = w.lowers;
-    lowers[level] = t.lower;
+    lowers[level] = figure::plus(
+        figure::figure_at(&lowers, level),
+        figure::natural(w.stratum),
+    );
     let mut x = w;
     x.tables = t;
     x.lowers = lowers;
@@ -388,7 +393,7 @@ pub fn begun<'a>(
     levels: &'a [i32],
     priorities: &'a [i32],
     literals: &'a [i32],
-    weights: &'a [u32],
+    weights: &'a [i32],
     entrycount: usize,
     w: Work,
 ) -> Work

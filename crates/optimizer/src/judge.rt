@@ -1,15 +1,16 @@
 // A full trail: whether its set is one that the query seeks.
 use crate::state::Judgement;
+use asp::figure;
 use cores::judge::Judged;
 use counting::counters::Marks;
 use indexing::leaf;
 ghost use mathlib.Core.Path.{_≡_};
 ghost use mathlib.Core.List.{List};
 ghost use Prim.Native.Nat.{ℕ, _≤_, _<_};
-ghost use lib.Dec.{eqb};
 ghost use lib.IntN.{ℤ, pos};
 ghost use lib.ListN.{length, getD};
 ghost use Rattle.asp.specs.Sets.{setOf};
+ghost use Rattle.asp.specs.Literal.{sameℤ};
 ghost use Rattle.asp.specs.Program.{All};
 ghost use Rattle.asp.specs.Cost.{cost, level};
 ghost use Rattle.asp.specs.Tables.{entriesOf, Formed};
@@ -27,15 +28,18 @@ fn is_settled_at<'a>(
     l: usize,
     priorities: &'a [i32],
     literals: &'a [i32],
-    weights: &'a [u32],
+    weights: &'a [i32],
     entrycount: usize,
     value: &'a [u8; 1025],
-    lowers: &'a [u64; 8],
+    lowers: &'a [i64; 8],
 ) -> bool
     requires { ⌜ (l < length (now levels)) × (l < 8) × EntriesFormed (now priorities) (now literals) (now weights) entrycount × (length (now value) ≡ 1025) × (length (now lowers) ≡ 8) ⌝ }
-    ensures { λ r. ⌜ r ≡ eqb (cost (setOf (now (value .entry))) (level (getD (now (levels .entry)) l (pos 0)) (entriesOf (now (priorities .entry)) (now (literals .entry)) (now (weights .entry)) entrycount))) (getD (now (lowers .entry)) l 0) ⌝ }
+    ensures { λ r. ⌜ r ≡ sameℤ (cost (setOf (now (value .entry))) (level (getD (now (levels .entry)) l (pos 0)) (entriesOf (now (priorities .entry)) (now (literals .entry)) (now (weights .entry)) entrycount))) (getD (now (lowers .entry)) l (pos 0)) ⌝ }
 {
-    asp::cost::level_cost(levels, l, priorities, literals, weights, entrycount, value) == lowers[l]
+    figure::equal(
+        asp::cost::level_cost(levels, l, priorities, literals, weights, entrycount, value),
+        figure::figure_at(lowers, l),
+    )
 }
 
 // Whether it does on each of the first k levels.
@@ -44,10 +48,10 @@ pub fn is_settled<'a>(
     k: usize,
     priorities: &'a [i32],
     literals: &'a [i32],
-    weights: &'a [u32],
+    weights: &'a [i32],
     entrycount: usize,
     value: &'a [u8; 1025],
-    lowers: &'a [u64; 8],
+    lowers: &'a [i64; 8],
 ) -> bool
     requires { ⌜ (k ≤ length (now levels)) × (k ≤ 8) × EntriesFormed (now priorities) (now literals) (now weights) entrycount × (length (now value) ≡ 1025) × (length (now lowers) ≡ 8) ⌝ }
     ensures { λ r. ⌜ r ≡ settledFrom (λ j. cost (setOf (now (value .entry))) (level (getD (now (levels .entry)) j (pos 0)) (entriesOf (now (priorities .entry)) (now (literals .entry)) (now (weights .entry)) entrycount))) (now (lowers .entry)) 0 k ⌝ }
@@ -91,7 +95,7 @@ fn in_class<'a>(
     level: usize,
     priorities: &'a [i32],
     literals: &'a [i32],
-    weights: &'a [u32],
+    weights: &'a [i32],
     entrycount: usize,
     starts: &'a [u16],
     lists: &'a [u16],
@@ -100,7 +104,7 @@ fn in_class<'a>(
     value: &'a [u8; 1025],
     key: &'a [u16; 2048],
     m: Marks,
-    lowers: &'a [u64; 8],
+    lowers: &'a [i64; 8],
 ) -> bool
     requires { ⌜ Formed n (now pool) (now rows) rulecount × (level ≤ length (now levels)) × (level ≤ 8) × EntriesFormed (now priorities) (now literals) (now weights) entrycount × (length (now value) ≡ 1025) × (length (now lowers) ≡ 8) ⌝ }
     requires { ⌜ Leaf (rules (now pool) (now rows) rulecount) n (index (now starts) (now lists)) (index (now headstarts) (now headlists)) (now value) (counters (now key) m) ⌝ }
@@ -143,9 +147,9 @@ pub fn judge_full<'a>(
     level: usize,
     priorities: &'a [i32],
     literals: &'a [i32],
-    weights: &'a [u32],
+    weights: &'a [i32],
     entrycount: usize,
-    lowers: &'a [u64; 8],
+    lowers: &'a [i64; 8],
     assumed: &'a [u16],
     softs: &'a [i32],
     cores: &'a [u16],

@@ -20,7 +20,7 @@ pub fn prepare<'a>(
     levels: &'a [i32],
     priorities: &'a [i32],
     literals: &'a [i32],
-    weights: &'a [u32],
+    weights: &'a [i32],
     entrycount: usize,
 ) -> Preparation
     requires { ⌜ FormedSource (source n (now pool) (now rows) rulecount (levelTables (now levels) (now priorities) (now literals) (now weights) entrycount)) ⌝ }

@@ -9,11 +9,13 @@ use crate::state::Work;
 use crate::turn;
 use search::trail::Places;
 ghost use mathlib.Core.Path.{_≡_};
-ghost use Rattle.optimizer.specs.Source.{levelTables, source, Prepared};
+ghost use lib.IntN.{pos};
+ghost use lib.ListN.{replicate};
+ghost use Rattle.optimizer.specs.Source.{levelTables, source, FormedLevels, Prepared};
 ghost use Rattle.search.specs.Places.{places};
 ghost use Rattle.optimizer.specs.Turn.{blameTables, isGoing};
 ghost use Rattle.counting.specs.Counters.{index};
-ghost use Rattle.optimizer.specs.State.{search, freshBlame, isRunning, freshSearch};
+ghost use Rattle.optimizer.specs.State.{search, freshBlame, isRunning, freshSearch, freshFor};
 ghost use Rattle.optimizer.specs.Advance.{advanceOf};
 ghost use Rattle.optimizer.specs.Run.{bumpedBy, afterRun, Reached, runOf};
 
@@ -102,7 +104,7 @@ pub fn run<'a>(
     levels: &'a [i32],
     priorities: &'a [i32],
     literals: &'a [i32],
-    weights: &'a [u32],
+    weights: &'a [i32],
     entrycount: usize,
     starts: &'a [u16],
     lists: &'a [u16],
@@ -248,7 +250,7 @@ pub fn advance<'a>(
     levels: &'a [i32],
     priorities: &'a [i32],
     literals: &'a [i32],
-    weights: &'a [u32],
+    weights: &'a [i32],
     entrycount: usize,
     starts: &'a [u16],
     lists: &'a [u16],
@@ -282,9 +284,9 @@ pub fn advance<'a>(
     r.search
 }
 
-// An optimization before its first advance.
-pub fn fresh() -> Search
-    ensures { λ r. ⌜ r ≡ freshSearch ⌝ }
+// An optimization before its first advance, over the lower bounds that it starts with.
+fn fresh_over(lowers: [i64; 8]) -> Search
+    ensures { λ r. ⌜ r ≡ freshSearch lowers ⌝ }
 {
     Search {
         phase: Phase::First,
@@ -295,9 +297,40 @@ pub fn fresh() -> Search
             level: 0,
             tables: cores::level::empty(),
             stratum: 0,
-            lowers: [0; 8],
+            lowers: lowers,
             uppers: [0; 8],
             best: [0; 1025],
         },
     }
+}
+
+// That of no program.
+pub fn fresh() -> Search
+    ensures { λ r. ⌜ r ≡ freshSearch (replicate 8 (pos 0)) ⌝ }
+{
+    fresh_over([0; 8])
+}
+
+// That of a program: each lower bound starts at the sum of its level's negative weights.
+pub fn fresh_for<'a>(
+    levels: &'a [i32],
+    priorities: &'a [i32],
+    literals: &'a [i32],
+    weights: &'a [i32],
+    entrycount: usize,
+) -> Search
+    requires { ⌜ FormedLevels (levelTables (now levels) (now priorities) (now literals) (now weights) entrycount) ⌝ }
+    ensures { λ r. ⌜ r ≡ freshFor (levelTables (now (levels .entry)) (now (priorities .entry)) (now (literals .entry)) (now (weights .entry)) entrycount) ⌝ }
+{
+    let mut starts = [0i64; 8];
+    asp::cost::level_starts(
+        levels,
+        levels.len(),
+        priorities,
+        literals,
+        weights,
+        entrycount,
+        &mut starts,
+    );
+    fresh_over(starts)
 }

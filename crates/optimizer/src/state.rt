@@ -25,8 +25,8 @@ pub struct Work {
     pub level: usize,
     pub tables: LevelTables,
     pub stratum: u32,
-    pub lowers: [u64; 8],
-    pub uppers: [u64; 8],
+    pub lowers: [i64; 8],
+    pub uppers: [i64; 8],
     pub best: [u8; 1025],
 }
 

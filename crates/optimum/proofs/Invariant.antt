@@ -5,8 +5,7 @@ use mathlib.Core.Bool.{false}
 use mathlib.Core.List.{List, [], _∷_}
 use Prim.Native.Nat.{ℕ, suc, _+_, _*_, _^_, _≤_}
 use Rattle.asp.specs.Sets.{Set}
-use Rattle.asp.specs.Program.{Entry}
-use Rattle.asp.specs.Cost.{cost, weight}
+use Rattle.asp.specs.Penalty.{Penalty, charge, bulk}
 use Rattle.search.specs.Trail.{Trail, FormedTrail}
 use Rattle.search.proofs.Spent.{spent}
 use Rattle.search.proofs.Search as search
@@ -22,7 +21,7 @@ use Rattle.optimum.proofs.Floor.{Base, Floor, weights}
 pub record Given : Type 1 where
   pub n : ℕ
   pub Model : Set → Type 0
-  pub levels : List (List Entry)
+  pub levels : List (List Penalty)
 
 module _ (S : Given) where
   open Given S using (n, Model, levels)
@@ -61,7 +60,7 @@ module _ (S : Given) where
 
   -- c advances were made, s of them in this query at most: one inequality, with no counter of queries
   abbrev pub Paid : Work → ℕ → ℕ → Type 0
-  Paid w c s = c + w .stratum * power ≤ (1 + 2 * weights (w .past) + w .tables .lower + weight (w .level)) * power + s
+  Paid w c s = c + w .stratum * power ≤ (1 + 2 * weights (w .past) + w .tables .lower + bulk (w .level)) * power + s
 
   pub record GoodFirst (c : ℕ) (t : Trail) : Type 0 where
     pub trail : search.GoodTrail firstQuery t []
@@ -70,11 +69,11 @@ module _ (S : Given) where
   pub record GoodWorking (c : ℕ) (w : Work) (t : Trail) (ms : List ℕ) : Type 0 where
     pub work : GoodWork w
     pub positive : 1 ≤ w .stratum
-    pub unsettled : cost (w .best) (w .level) ≢ w .tables .lower
+    pub unsettled : charge (w .best) (w .level) ≢ w .tables .lower
     pub trail : search.GoodTrail (levelQuery w) t ms
     pub paid : Paid w c (spent n t)
 
-  pub record GoodEnd (past : List (List Entry)) (settled : List ℕ) (later : List (List Entry)) (M : Set) : Type 0 where
+  pub record GoodEnd (past : List (List Penalty)) (settled : List ℕ) (later : List (List Penalty)) (M : Set) : Type 0 where
     pub place : onto past later ≡ levels
     pub base : Base Model past settled M
     pub floor : Floor Model past settled

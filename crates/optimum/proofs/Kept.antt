@@ -11,8 +11,9 @@ use lib.Dec.{eqb}
 use mir.Facts.{eqb-yes, eqb-no}
 use lib.ListN.{length}
 use Rattle.asp.specs.Sets.{Set, pick}
-use Rattle.asp.specs.Program.{Entry, All}
-use Rattle.asp.specs.Cost.{cost, weight, total}
+use Rattle.asp.specs.Program.{All}
+use Rattle.asp.specs.Penalty.{Penalty, charge, bulk}
+use Rattle.asp.specs.Cost.{total}
 use Rattle.search.specs.Trail.{Trail}
 use Rattle.search.specs.Machine.{Verdict}
 use Rattle.search.specs.Machine as machine
@@ -23,7 +24,7 @@ use Rattle.cores.specs.Level.{opened, greatest, under, room}
 use Rattle.cores.specs.Identity.{Good, Core, problem, remaining}
 use Rattle.cores.proofs.Sums.{below-or}
 use Rattle.cores.proofs.Record.{kept, some-violated}
-use Rattle.cores.proofs.Open.{opened-good, cost-le}
+use Rattle.cores.proofs.Open.{opened-good, charge-le}
 use Rattle.cores.proofs.Strata.{greatest-le, greatest-none, under-lt, under-none}
 use Rattle.cores.proofs.Limits.{opened-fits, fits-kept, met-costs-lower, lower-bounds}
 use Rattle.optimum.specs.Optimize.{Work, State, first, working, optimum, incoherent, full, Tests, better, begun, openNext, settle, withCore, withModel, noModel, afterFirst, afterWork, advance, after}
@@ -65,7 +66,7 @@ module _ (S : Given) where
 
   -- ---- levels are opened and settled
 
-  begun-work : (past : List (List Entry)) (settled : List ℕ) (l : List Entry) (later : List (List Entry)) (M : Set) → GoodEnd S past settled (l ∷ later) M
+  begun-work : (past : List (List Penalty)) (settled : List ℕ) (l : List Penalty) (later : List (List Penalty)) (M : Set) → GoodEnd S past settled (l ∷ later) M
       → GoodWork S (begun past settled l later M)
   begun-work past settled l later M g = record {
     place = g .place;
@@ -75,30 +76,30 @@ module _ (S : Given) where
     fits = opened-fits (problem (Base Model past settled) l) l refl;
   }
 
-  end-more : (past : List (List Entry)) (settled : List ℕ) (l : List Entry) (later : List (List Entry)) (M : Set) (b : ℕ) → GoodEnd S past settled (l ∷ later) M
-      → cost M l ≡ b → ((N : Set) → Base Model past settled N → b ≤ cost N l) → GoodEnd S (l ∷ past) (b ∷ settled) later M
+  end-more : (past : List (List Penalty)) (settled : List ℕ) (l : List Penalty) (later : List (List Penalty)) (M : Set) (b : ℕ) → GoodEnd S past settled (l ∷ later) M
+      → charge M l ≡ b → ((N : Set) → Base Model past settled N → b ≤ charge N l) → GoodEnd S (l ∷ past) (b ∷ settled) later M
   end-more past settled l later M b g e f = record { place = g .place; base = (g .base .0, (e, g .base .1)); floor = (f, g .floor) }
 
-  opened-weighs : (l : List Entry) → remaining (opened l) ≡ weight l
+  opened-weighs : (l : List Penalty) → remaining (opened l) ≡ bulk l
   opened-weighs l = omega (arith, opened-good Model l .weighs)
 
-  begun-positive : (l : List Entry) (M : Set) → cost M l ≢ 0 → 1 ≤ greatest (opened l .rests)
+  begun-positive : (l : List Penalty) (M : Set) → charge M l ≢ 0 → 1 ≤ greatest (opened l .rests)
   begun-positive l M k = go (below-or (greatest (opened l .rests)) 1)
     where
       go : (greatest (opened l .rests) < 1) ⊎ (1 ≤ greatest (opened l .rests)) → 1 ≤ greatest (opened l .rests)
-      go (inl h) = absurd (k (omega (arith, greatest-none (opened l .rests) (omega arith), opened-weighs l, cost-le M l)))
+      go (inl h) = absurd (k (omega (arith, greatest-none (opened l .rests) (omega arith), opened-weighs l, charge-le M l)))
       go (inr h) = h
 
-  pub open-kept : (c : ℕ) (past : List (List Entry)) (settled : List ℕ) (later : List (List Entry)) (M : Set) → GoodEnd S past settled later M
+  pub open-kept : (c : ℕ) (past : List (List Penalty)) (settled : List ℕ) (later : List (List Penalty)) (M : Set) → GoodEnd S past settled later M
       → c ≤ (1 + 2 * weights past) * power S → Inv S (openNext c past settled later M)
   unfolding total
   open-kept c past settled [] M g h = g
   open-kept c past settled (l ∷ later) M g h =
-      go (same? (cost M l) 0)
+      go (same? (charge M l) 0)
       (λ e. open-kept c (l ∷ past) (0 ∷ settled) later M (end-more past settled l later M 0 g e (λ N k. zero-le))
-      (paid-done c (weights past) 0 (weight l) 0 (power S) (omega arith) zero-le))
+      (paid-done c (weights past) 0 (bulk l) 0 (power S) (omega arith) zero-le))
     where
-      go : {b : Bool} → Same (cost M l) 0 b → (cost M l ≡ 0 → Inv S (openNext c (l ∷ past) (0 ∷ settled) later M))
+      go : {b : Bool} → Same (charge M l) 0 b → (charge M l ≡ 0 → Inv S (openNext c (l ∷ past) (0 ∷ settled) later M))
           → Inv S (pick b (openNext c (l ∷ past) (0 ∷ settled) later M) (working c (begun past settled l later M) [] []))
       go (same e) r = r e
       go (other k) r = record {
@@ -106,23 +107,23 @@ module _ (S : Given) where
         positive = begun-positive l M k;
         unsettled = k;
         trail = search.good-start (levelQuery S (begun past settled l later M));
-        paid = paid-begin c (weights past) (greatest (opened l .rests)) (weight l) (power S) h (omega (arith, greatest-le (opened l .rests), opened-weighs l));
+        paid = paid-begin c (weights past) (greatest (opened l .rests)) (bulk l) (power S) h (omega (arith, greatest-le (opened l .rests), opened-weighs l));
       }
 
-  lower-le : (w : Work) → GoodWork S w → w .tables .lower ≤ weight (w .level)
+  lower-le : (w : Work) → GoodWork S w → w .tables .lower ≤ bulk (w .level)
   lower-le w g = omega (arith, g .good .weighs)
 
-  pub settle-kept : (c : ℕ) (w : Work) → GoodWork S w → (cost (w .best) (w .level) ≢ w .tables .lower → 1 ≤ w .stratum) → Paid S w c 0 → Inv S (settle c w)
+  pub settle-kept : (c : ℕ) (w : Work) → GoodWork S w → (charge (w .best) (w .level) ≢ w .tables .lower → 1 ≤ w .stratum) → Paid S w c 0 → Inv S (settle c w)
   unfolding total
-  settle-kept c w g pos h = go (same? (cost (w .best) (w .level)) (w .tables .lower))
+  settle-kept c w g pos h = go (same? (charge (w .best) (w .level)) (w .tables .lower))
     where
-      go : {b : Bool} → Same (cost (w .best) (w .level)) (w .tables .lower) b
+      go : {b : Bool} → Same (charge (w .best) (w .level)) (w .tables .lower) b
           → Inv S (pick b (openNext c (w .level ∷ w .past) (w .tables .lower ∷ w .settled) (w .later) (w .best)) (working c w [] []))
       go (same e) =
           open-kept c (w .level ∷ w .past) (w .tables .lower ∷ w .settled) (w .later) (w .best)
           (end-more (w .past) (w .settled) (w .level) (w .later) (w .best) (w .tables .lower)
           (record { place = g .place; base = g .base; floor = g .floor }) e (lower-bounds (problem (Among S w) (w .level)) (w .tables) (g .good)))
-          (paid-done c (weights (w .past)) (w .tables .lower) (weight (w .level)) (w .stratum) (power S) h (lower-le w g))
+          (paid-done c (weights (w .past)) (w .tables .lower) (bulk (w .level)) (w .stratum) (power S) h (lower-le w g))
       go (other k) = record { work = g; positive = pos k; unsettled = k; trail = search.good-start (levelQuery S w); paid = h }
 
   -- ---- a query ends without a model
@@ -170,9 +171,9 @@ module _ (S : Given) where
 
   -- if nothing is left below the stratum, the model costs the lower bound, and so does the better one
   model-settles : (w : Work) (M : Set) → GoodWork S w → search.Sought (levelQuery S w) M → under (w .stratum) (w .tables .rests) ≡ 0
-      → cost (better levels M (w .best)) (w .level) ≡ w .tables .lower
+      → charge (better levels M (w .best)) (w .level) ≡ w .tables .lower
   model-settles w M g h e =
-      subst (λ (ls : List (List Entry)). cost (better ls M (w .best)) (w .level) ≡ w .tables .lower) (g .place)
+      subst (λ (ls : List (List Penalty)). charge (better ls M (w .best)) (w .level) ≡ w .tables .lower) (g .place)
       (better-cost M (w .best) (w .past) (w .settled) (w .level) (w .later) (w .tables .lower) (h .0 .1) (g .base .1)
       (met-costs-lower (problem (Among S w) (w .level)) (w .tables) (g .good) M (h .0) (λ p l k. h .1 p (l, under-none (w .stratum) (w .tables .rests) e p l k)))
       (lower-bounds (problem (Among S w) (w .level)) (w .tables) (g .good) (w .best) (g .base)))
@@ -181,9 +182,9 @@ module _ (S : Given) where
       → Inv S (settle (suc c) (withModel levels w M))
   found-kept c w M g s1 h x k p =
       settle-kept (suc c) (withModel levels w M) (model-work w M g (h .0)) (λ u. go u (below-or (under (w .stratum) (w .tables .rests)) 1))
-      (paid-fall c (weights (w .past)) (w .tables .lower) (weight (w .level)) (w .stratum) (under (w .stratum) (w .tables .rests)) x (power S) p k (under-lt (w .stratum) (w .tables .rests) s1))
+      (paid-fall c (weights (w .past)) (w .tables .lower) (bulk (w .level)) (w .stratum) (under (w .stratum) (w .tables .rests)) x (power S) p k (under-lt (w .stratum) (w .tables .rests) s1))
     where
-      go : cost (better levels M (w .best)) (w .level) ≢ w .tables .lower → (under (w .stratum) (w .tables .rests) < 1) ⊎ (1 ≤ under (w .stratum) (w .tables .rests))
+      go : charge (better levels M (w .best)) (w .level) ≢ w .tables .lower → (under (w .stratum) (w .tables .rests) < 1) ⊎ (1 ≤ under (w .stratum) (w .tables .rests))
           → 1 ≤ under (w .stratum) (w .tables .rests)
       go u (inl l) = absurd (u (model-settles w M g h (omega arith)))
       go u (inr l) = l
@@ -191,12 +192,12 @@ module _ (S : Given) where
   -- ---- an advance
 
   -- what a step of a query comes to, from what the search says of it
-  pub work-kept : (c : ℕ) (w : Work) (x : ℕ) (s : machine.QueryState) → GoodWork S w → 1 ≤ w .stratum → cost (w .best) (w .level) ≢ w .tables .lower → Paid S w c x → x + 2 ≤ power S
+  pub work-kept : (c : ℕ) (w : Work) (x : ℕ) (s : machine.QueryState) → GoodWork S w → 1 ≤ w .stratum → charge (w .best) (w .level) ≢ w .tables .lower → Paid S w c x → x + 2 ≤ power S
       → search.Good (levelQuery S w) s → search.Paid (levelQuery S w) (suc x) s → Inv S (afterWork levels (suc c) w s)
   work-kept c w x (machine.running t ms) g s1 u p k h q = record { work = g; positive = s1; unsettled = u; trail = h; paid = omega (arith, p, q) }
   work-kept c w x (machine.without ms) g s1 u p k h q =
       none-kept (suc c) w ms g s1 (core-of w ms g h)
-      (paid-core c (weights (w .past)) (w .tables .lower) (weight (w .level)) (w .stratum) x (power S) p k s1)
+      (paid-core c (weights (w .past)) (w .tables .lower) (bulk (w .level)) (w .stratum) x (power S) p k s1)
   work-kept c w x (machine.model M) g s1 u p k h q = found-kept c w M g s1 h x k p
 
   pub turn-kept : (c : ℕ) (w : Work) (t : Trail) (ms : List ℕ) (x : Verdict) → GoodWorking S c w t ms → search.Says (levelQuery S w) t x
