@@ -3,7 +3,7 @@ use mathlib.Core.Path.{_≡_, refl, sym, ap, ap₂, _∙_, subst}
 use mathlib.Core.Bool.{Bool, true, false, not, cond, _&&_, _||_}
 use mathlib.Core.List.{List, [], _∷_, map}
 use mathlib.Core.Logic.{_⊎_, inl, inr}
-use Prim.Native.Nat.{ℕ, zero, suc, _+_, _-_, _≤_, _<_}
+use Prim.Native.Nat.{ℕ, zero, suc, _+_, _-_, _≤_, _<_, zero-le}
 use native.Mathlib.Omega.{arith}
 use lib.Dec.{T, eqb, ltb}
 use lib.IntN.{ℤ, pos, negsuc, negℤ, natAbs, _+ℤ_, _-ℤ_, +ℤ-assoc, +ℤ-comm, +ℤ-idl, +ℤ-idr, +ℤ-invl, +ℤ-invr, negℤ-+ℤ}
@@ -14,10 +14,17 @@ use Rattle.asp.specs.Sets.{Set, pick}
 use Rattle.asp.specs.Literal.{sameℤ, isNegative}
 use Rattle.asp.specs.Program.{Literal, Entry, All}
 use Rattle.asp.specs.Stable.{holds}
-use Rattle.asp.specs.Cost.{total, totalℤ, weight, entryCost, cost, negativePart, start, cheaper, NoDearer}
+use Rattle.asp.specs.Cost.{level, total, totalℤ, weight, entryCost, cost, negativePart, start, cheaper, NoDearer}
 use Rattle.asp.specs.Penalty.{Penalty, paidLiteral, penalty, penalties, penaltyCharge, charge, bulk, above, rise}
 use Rattle.asp.proofs.Literals.{holds-complement}
-use Rattle.asp.proofs.Signed.{abs-neg, same-refl, same-true}
+use Rattle.asp.proofs.Signed.{abs-neg, same-refl, same-true, sum-size}
+
+-- what holds of all entries holds of a level's
+pub level-all : (P : Entry → Type 0) (q : ℤ) (es : List Entry) → All P es → All P (level q es)
+unfolding level
+level-all P q [] a = tt
+level-all P q (e ∷ es) a =
+    elim (sameℤ q (e .priority)) as (λ b. All P (pick b (e ∷ level q es) (level q es))) [ true ↦ (a .0, level-all P q es (a .1)) | false ↦ level-all P q es (a .1) ]
 
 -- literals are of atoms from 1 on
 abbrev pub Named : List Entry → Type 0
@@ -66,6 +73,16 @@ unfolding total
 bulk-is [] = refl
 bulk-is (e ∷ es) = ap (λ (x : ℕ). natAbs (e .weight) + x) (bulk-is es)
 
+negative-size : (w : ℤ) → natAbs (negativePart w) ≤ natAbs w
+negative-size (pos w) = zero-le
+negative-size (negsuc w) = omega arith
+
+-- a start is no farther from 0 than the level weighs
+pub start-size : (es : List Entry) → natAbs (start es) ≤ weight es
+unfolding total totalℤ
+start-size [] = zero-le
+start-size (e ∷ es) = omega (arith, sum-size (negativePart (e .weight)) (start es), negative-size (e .weight), start-size es)
+
 -- ---- how far a figure lies above a start
 
 pub rise-above : (s : ℤ) (c : ℕ) → rise s (above s c) ≡ c
@@ -74,6 +91,16 @@ rise-above s c =
 
 pub above-none : (s : ℤ) → above s 0 ≡ s
 above-none s = +ℤ-idr s
+
+pub rise-none : (s : ℤ) → rise s s ≡ 0
+rise-none s = ap (rise s) (sym (above-none s)) ∙ rise-above s 0
+
+-- z lies above s
+abbrev pub IsAbove : ℤ → ℤ → Type 0
+IsAbove s z = z ≡ above s (rise s z)
+
+pub is-above : (s : ℤ) {z : ℤ} (c : ℕ) → z ≡ above s c → IsAbove s z
+is-above s c e = e ∙ ap (above s) (sym (ap (rise s) e ∙ rise-above s c))
 
 pub above-more : (s : ℤ) (c d : ℕ) → above (above s c) d ≡ above s (c + d)
 above-more s c d = +ℤ-assoc s (pos c) (pos d)

@@ -40,11 +40,11 @@ weighty-all P [] a = tt
 weighty-all P (e ∷ es) a =
     elim (ltb 0 (e .weight)) as (λ b. All P (pick b (e ∷ weighty es) (weighty es))) [ true ↦ (a .0, weighty-all P es (a .1)) | false ↦ weighty-all P es (a .1) ]
 
-pub level-all : (P : Penalty → Type 0) (q : ℤ) (es : List Entry) → All P (penalties es) → All P (penalties (level q es))
+pub level-penalties : (P : Penalty → Type 0) (q : ℤ) (es : List Entry) → All P (penalties es) → All P (penalties (level q es))
 unfolding level
-level-all P q [] a = tt
-level-all P q (e ∷ es) a =
-    elim (sameℤ q (e .priority)) as (λ b. All P (penalties (pick b (e ∷ level q es) (level q es)))) [ true ↦ (a .0, level-all P q es (a .1)) | false ↦ level-all P q es (a .1) ]
+level-penalties P q [] a = tt
+level-penalties P q (e ∷ es) a =
+    elim (sameℤ q (e .priority)) as (λ b. All P (penalties (pick b (e ∷ level q es) (level q es)))) [ true ↦ (a .0, level-penalties P q es (a .1)) | false ↦ level-penalties P q es (a .1) ]
 
 weight-most : (n : ℕ) (es : List Penalty) → All (λ (e : Penalty). e .weight ≤ n) es → bulk es ≤ length es * n
 unfolding total
@@ -55,8 +55,8 @@ module _ (es : List Entry) (f : FormedPenalties (penalties es)) (q : ℤ) where
   pub level-formed : FormedPenalties (penalties (level q es))
   level-formed = record {
     few = omega (arith, f .few, length-level q es, length-map es penalty, length-map (level q es) penalty);
-    atoms = level-all (λ p. natAbs (p .literal) ≤ 1024) q es (f .atoms);
-    weights = level-all (λ p. p .weight ≤ 1000000) q es (f .weights);
+    atoms = level-penalties (λ p. natAbs (p .literal) ≤ 1024) q es (f .atoms);
+    weights = level-penalties (λ p. p .weight ≤ 1000000) q es (f .weights);
   }
 
 -- a level weighs at most 512,000,000

@@ -3,13 +3,16 @@ use mathlib.Core.Path.{_≡_, refl, ap, ap₂, _∙_, fun-ext}
 use mathlib.Core.Bool.{Bool, _&&_}
 use mathlib.Core.List.{List, _++_}
 use Prim.Native.Nat.{ℕ, zero, suc, _+_, _-_}
-use lib.Dec.{eqb, ltb}
+use lib.Dec.{ltb}
 use lib.IntN.{ℤ, pos}
 use lib.ListN.{length, getD, take, drop, replicate}
+use lib.Signed.{ltZ}
 use Rattle.asp.specs.Sets.{Set, setOf, pick}
 use Rattle.asp.specs.Program.{Rule, Entry}
+use Rattle.asp.specs.Literal.{sameℤ}
+use Rattle.asp.specs.Penalty.{penalties}
 use Rattle.asp.specs.Stable.{isStable}
-use Rattle.asp.specs.Cost.{cost, costsAt, cheaper, level}
+use Rattle.asp.specs.Cost.{cost, costsAt, startsAt, cheaper, level}
 use Rattle.asp.specs.Tables.{literalsAt}
 use Rattle.search.specs.declared.trail.Places.{Places}
 use Rattle.search.specs.Scan.{scanOf}
@@ -33,7 +36,7 @@ use Rattle.optimizer.specs.declared.state.Turn.the-variants.{Going, With
 use Rattle.optimizer.specs.declared.state.Judgement.the-variants.{Dead}
 use Rattle.optimizer.specs.Source.{Levels, Source, many, levelAt, entriesIn, rulesIn, ruleTables, FormedSource}
 use Rattle.optimizer.specs.Turn.{QueryTables, blamedOf, settledFrom, inClass, softOrWanted, judgeFull, Turned, judgedTurn, turnBy, assumedBy, turnOf, isGoing}
-use Rattle.optimizer.specs.State.{work, search as searchOf, isRunning}
+use Rattle.optimizer.specs.State.{work, search as searchOf, isRunning, freshSearch, freshFor}
 use Rattle.optimizer.specs.Finish.{Placed, placed, nextFrom, begunAt, openAt, openFrom, settleOf, costsOf, withBest, betterOf, fallen, withTables, triedWork, finishFirst, finishLevel, finishOf}
 use Rattle.optimizer.specs.Advance.{endedQuery, finishTurn, workQuery, bumped, advanceOf, advancesOf, madeBy}
 
@@ -54,10 +57,13 @@ module _ (L K : Levels) (e : L .levels ≡ K .levels) (i : entriesIn L ≡ entri
   level-same j = ap₂ (λ (ls : List ℤ) (es : List Entry). level (getD ls j (pos 0)) es) e i
 
   costs-same : (v : List ℕ) → costsOf L v ≡ costsOf K v
-  costs-same v = ap₂ (λ (ls : List ℤ) (es : List Entry). costsAt (setOf v) (literalsAt ls 0 (length ls)) es ++ drop (length ls) (replicate 8 0)) e i
+  costs-same v = ap₂ (λ (ls : List ℤ) (es : List Entry). costsAt (setOf v) (literalsAt ls 0 (length ls)) es ++ drop (length ls) (replicate 8 (pos 0))) e i
+
+  pub fresh-same : freshFor L ≡ freshFor K
+  fresh-same = ap₂ (λ (ls : List ℤ) (es : List Entry). freshSearch (startsAt (literalsAt ls 0 (length ls)) es ++ drop (length ls) (replicate 8 (pos 0)))) e i
 
   begun-same : (w : Work) (j : ℕ) → begunAt L w j ≡ begunAt K w j
-  begun-same w j = ap (λ (es : List Entry). work j (openedTables es) (greatest (levelOf (openedTables es) .rests)) (w .lowers) (w .uppers) (w .best)) (level-same j)
+  begun-same w j = ap (λ (es : List Entry). work j (openedTables (penalties es)) (greatest (levelOf (openedTables (penalties es)) .rests)) (w .lowers) (w .uppers) (w .best)) (level-same j)
 
   open-at-same : (w : Work) (j : ℕ) → openAt L w j ≡ openAt K w j
   open-at-same w j =
@@ -65,19 +71,19 @@ module _ (L K : Levels) (e : L .levels ≡ K .levels) (i : entriesIn L ≡ entri
 
   open-same : (w : Work) (j : ℕ) → openFrom L w j ≡ openFrom K w j
   unfolding openFrom
-  open-same w j = ap (λ (m : ℕ). openAt L w (nextFrom (w .uppers) j (m - j))) many-same ∙ open-at-same w (nextFrom (w .uppers) j (many K - j))
+  open-same w j = ap (λ (m : ℕ). openAt L w (nextFrom (w .lowers) (w .uppers) j (m - j))) many-same ∙ open-at-same w (nextFrom (w .lowers) (w .uppers) j (many K - j))
 
   settle-same : (w : Work) → settleOf L w ≡ settleOf K w
   unfolding settleOf
-  settle-same w = ap (λ (x : Placed). pick (eqb (getD (w .uppers) (w .level) 0) (w .tables .lower)) x (placed Level w)) (open-same w (w .level + 1))
+  settle-same w = ap (λ (x : Placed). pick (sameℤ (getD (w .uppers) (w .level) (pos 0)) (getD (w .lowers) (w .level) (pos 0))) x (placed Level w)) (open-same w (w .level + 1))
 
   best-same : (w : Work) (v : List ℕ) → withBest L w v ≡ withBest K w v
-  best-same w v = ap (λ (us : List ℕ). work (w .level) (w .tables) (w .stratum) (w .lowers) us v) (costs-same v)
+  best-same w v = ap (λ (us : List ℤ). work (w .level) (w .tables) (w .stratum) (w .lowers) us v) (costs-same v)
 
   better-same : (w : Work) (v : List ℕ) → betterOf L w v ≡ betterOf K w v
   unfolding betterOf
   better-same w v =
-      ap₂ (λ (m : ℕ) (us : List ℕ). pick (cheaper ltb (take m us) (take m (w .uppers))) (work (w .level) (w .tables) (w .stratum) (w .lowers) us v) w) many-same (costs-same v)
+      ap₂ (λ (m : ℕ) (us : List ℤ). pick (cheaper ltZ (take m us) (take m (w .uppers))) (work (w .level) (w .tables) (w .stratum) (w .lowers) us v) w) many-same (costs-same v)
 
   tried-same : (w : Work) (x : Tried) → triedWork L w x ≡ triedWork K w x
   tried-same w x = ap (pick (x .full) (placed Full w)) (settle-same (withTables w (x .tables)))
@@ -102,10 +108,10 @@ module _ (L K : Levels) (e : L .levels ≡ K .levels) (i : entriesIn L ≡ entri
 -- ---- an advance
 
 module _ (S R : Source) (f : FormedSource S) (g : FormedSource R) (e : SameSource S R) where
-  class-same : (k : ℕ) (lowers : List ℕ) (M : Set) → inClass S k lowers M ≡ inClass R k lowers M
+  class-same : (k : ℕ) (lowers : List ℤ) (M : Set) → inClass S k lowers M ≡ inClass R k lowers M
   class-same k lowers M =
       ap₂ (λ (b c : Bool). b && c) (ap₂ (λ (n : ℕ) (rs : List Rule). isStable n rs M) (e .n) (e .rules))
-      (ap (λ (h : ℕ → ℕ). settledFrom h lowers 0 k) (fun-ext (λ j. ap (cost M) (level-same (S .levels) (R .levels) (e .levels) (e .entries) j))))
+      (ap (λ (h : ℕ → ℤ). settledFrom h lowers 0 k) (fun-ext (λ j. ap (cost M) (level-same (S .levels) (R .levels) (e .levels) (e .entries) j))))
 
   judge-same : (q : QueryTables) (ms v : List ℕ) → judgeFull S q ms v ≡ judgeFull R q ms v
   judge-same q ms v =
@@ -120,7 +126,7 @@ module _ (S R : Source) (f : FormedSource S) (g : FormedSource R) (e : SameSourc
           ap₂ (λ (n : ℕ) (y : Found). testBy n (assumedBy S q b) (t .value) (t .len) y) (e .n)
           (scan-same (S .n) (R .n) (S .pool) (R .pool) (S .rows) (R .rows) (S .rulecount) (R .rulecount) (f .rules) (g .rules) (e .rules) (t .value))
           ∙ ap (λ (h : Set). testBy (R .n) (assumedEntries (q .wished) (b .flags) (length (q .wished)) h) (t .value) (t .len) (scanOf (ruleTables R) (t .value)))
-          (ap₂ triedFirst (e .rules) (e .entries))
+          (ap₂ (λ (rs : List Rule) (es : List Entry). triedFirst rs (penalties es)) (e .rules) (e .entries))
 
       go : (y : Tested) → turnBy S q t b y ≡ turnBy R q t b y
       go (RuleBroken r) = refl

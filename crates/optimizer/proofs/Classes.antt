@@ -9,12 +9,14 @@ use native.Mathlib.Omega.{arith}
 use lib.Dec.{T, eqb}
 use lib.IntN.{ℤ, pos, negℤ, natAbs}
 use lib.ListN.{length, getD, take, length-map, List·getD-map}
-use borrow.Author.Tests.{eq-eqb, eqb-true}
 use Rattle.asp.specs.Sets.{Set, In, Only, pick}
 use Rattle.asp.specs.Program.{All, LiteralIn, Out, Distinct}
 use Rattle.asp.specs.Stable.{isStable, holds, keep}
+use Rattle.asp.specs.Literal.{sameℤ}
 use Rattle.asp.specs.Cost.{cost}
-use Rattle.asp.proofs.Signed.{abs-neg}
+use Rattle.asp.specs.Penalty.{charge, above, rise}
+use Rattle.asp.proofs.Signed.{abs-neg, same-refl, same-true}
+use Rattle.asp.proofs.Penalties.{rise-above, above-none, is-above}
 use Rattle.asp.proofs.Literals.{holds-complement}
 use Rattle.asp.proofs.Stability.{stable-only, stable-yes, yes-stable}
 use Rattle.search.proofs.Unbroken.{stable-unbroken}
@@ -28,53 +30,62 @@ use Rattle.cores.specs.declared.level.LevelTables.{LevelTables}
 use Rattle.cores.proofs.Links.{rests-count}
 use Rattle.cores.proofs.Strata.{assumed-length, assumed-distinct, assumed-heavy, every-assumed}
 use Rattle.cores.proofs.Unpacked.{judging-formed, judging-level}
-use Rattle.optimizer.specs.Source.{Levels, Source, many, levelAt, levelsIn, rulesIn, FormedSource}
+use Rattle.optimizer.specs.Source.{Levels, Source, many, levelAt, startAt, penaltiesAt, penaltiesIn, rulesIn, FormedSource}
 use Rattle.optimizer.specs.Turn.{queryOf, assumedIn, entryPlaces, wishedIn, settledFrom, inClass}
-use Rattle.optimizer.specs.State.{freshWork}
+use Rattle.optimizer.specs.State.{firstWork}
 use Rattle.optimizer.specs.Advance.{workQuery}
 use Rattle.optimizer.specs.Ready.{ReadyQuery}
 use Rattle.optimizer.specs.Facts.{Model}
 use Rattle.optimizer.specs.Meaning.{pastAt, settledAt}
 use Rattle.optimum.proofs.Floor.{Costs, Base}
 use Rattle.optimum.proofs.Invariant.{Given}
+use Rattle.optimizer.proofs.Figures.{Figured, start-at, cost-above}
 use Rattle.optimizer.proofs.Fronts.{keep-length}
 use Rattle.optimizer.proofs.Turning.{all-at}
 use Rattle.optimizer.proofs.Verdicts.{Answers}
 
 abbrev pub given : Source → Given
-given S = record { n = S .n; Model = Model S; levels = levelsIn (S .levels) }
+given S = record { n = S .n; Model = Model S; levels = penaltiesIn (S .levels) }
 
 -- ---- the settled costs
 
-settled-all : (f : ℕ → ℕ) (lowers : List ℕ) (i k : ℕ) → settledFrom f lowers i k ≡ true → (l : ℕ) → i ≤ l → l < i + k → f l ≡ getD lowers l 0
+settled-all : (f : ℕ → ℤ) (lowers : List ℤ) (i k : ℕ) → settledFrom f lowers i k ≡ true → (l : ℕ) → i ≤ l → l < i + k → f l ≡ getD lowers l (pos 0)
 unfolding settledFrom
 settled-all f lowers i zero e l h g = absurd (omega arith)
-settled-all f lowers i (suc k) e l h g = go (eqb (f i) (getD lowers i 0)) refl e (λ c. settled-all f lowers (i + 1) k c l)
+settled-all f lowers i (suc k) e l h g = go (sameℤ (f i) (getD lowers i (pos 0))) refl e (λ c. settled-all f lowers (i + 1) k c l)
   where
-    go : (b : Bool) → eqb (f i) (getD lowers i 0) ≡ b → (b && settledFrom f lowers (i + 1) k) ≡ true → (settledFrom f lowers (i + 1) k ≡ true → i + 1 ≤ l → l < i + 1 + k → f l ≡ getD lowers l 0) → f l ≡ getD lowers l 0
+    go : (b : Bool) → sameℤ (f i) (getD lowers i (pos 0)) ≡ b → (b && settledFrom f lowers (i + 1) k) ≡ true → (settledFrom f lowers (i + 1) k ≡ true → i + 1 ≤ l → l < i + 1 + k → f l ≡ getD lowers l (pos 0))
+        → f l ≡ getD lowers l (pos 0)
     go true q c r = by (ℕ-discrete i l)
       where
-        by : Dec (i ≡ l) → f l ≡ getD lowers l 0
-        by (yes z) = subst (λ (x : ℕ). f x ≡ getD lowers x 0) z (eqb-true (f i) (getD lowers i 0) q)
+        by : Dec (i ≡ l) → f l ≡ getD lowers l (pos 0)
+        by (yes z) = subst (λ (x : ℕ). f x ≡ getD lowers x (pos 0)) z (same-true (f i) (getD lowers i (pos 0)) q)
         by (no z) = r c (omega arith) (omega arith)
     go false q c r = absurd (true≢false (sym c))
 
-all-settled : (f : ℕ → ℕ) (lowers : List ℕ) (i k : ℕ) → ((l : ℕ) → i ≤ l → l < i + k → f l ≡ getD lowers l 0) → settledFrom f lowers i k ≡ true
+all-settled : (f : ℕ → ℤ) (lowers : List ℤ) (i k : ℕ) → ((l : ℕ) → i ≤ l → l < i + k → f l ≡ getD lowers l (pos 0)) → settledFrom f lowers i k ≡ true
 unfolding settledFrom
 all-settled f lowers i zero h = refl
-all-settled f lowers i (suc k) h = rw (eq-eqb (f i) (getD lowers i 0) (h i (omega arith) (omega arith))) (all-settled f lowers (i + 1) k (λ l a b. h l (omega arith) (omega arith)))
+all-settled f lowers i (suc k) h =
+    rw (ap (λ (z : ℤ). sameℤ z (getD lowers i (pos 0))) (h i (omega arith) (omega arith)) ∙ same-refl (getD lowers i (pos 0))) (all-settled f lowers (i + 1) k (λ l a b. h l (omega arith) (omega arith)))
 
-pub costs-at : (L : Levels) (lowers : List ℕ) (M : Set) (j : ℕ) → ((l : ℕ) → l < j → cost M (levelAt L l) ≡ getD lowers l 0) → Costs (pastAt L j) (settledAt lowers j) M
-costs-at L lowers M zero h = tt
-costs-at L lowers M (suc j) h = (h j (omega arith), costs-at L lowers M j (λ l k. h l (omega arith)))
+module _ (S : Source) (f : FormedSource S) (lowers : List ℤ) (M : Set) where
+  abbrev levels : Levels
+  levels = S .levels
 
-pub at-costs : (L : Levels) (lowers : List ℕ) (M : Set) (j : ℕ) → Costs (pastAt L j) (settledAt lowers j) M → (l : ℕ) → l < j → cost M (levelAt L l) ≡ getD lowers l 0
-at-costs L lowers M zero c l h = absurd (omega arith)
-at-costs L lowers M (suc j) c l h = by (ℕ-discrete l j) (at-costs L lowers M j (c .1) l)
-  where
-    by : Dec (l ≡ j) → (l < j → cost M (levelAt L l) ≡ getD lowers l 0) → cost M (levelAt L l) ≡ getD lowers l 0
-    by (yes z) r = rw z (c .0)
-    by (no z) r = r (omega arith)
+  -- the settled costs, as what is charged
+  pub costs-at : (j : ℕ) → ((l : ℕ) → l < j → cost M (levelAt levels l) ≡ getD lowers l (pos 0)) → Costs (pastAt levels j) (settledAt levels lowers j) M
+  costs-at zero h = tt
+  costs-at (suc j) h =
+      (sym (rise-above (startAt levels j) (charge M (penaltiesAt levels j))) ∙ ap (rise (startAt levels j)) (sym (cost-above S f M j) ∙ h j (omega arith)), costs-at j (λ l k. h l (omega arith)))
+
+  pub at-costs : Figured levels lowers → (j : ℕ) → j ≤ many levels → Costs (pastAt levels j) (settledAt levels lowers j) M → (l : ℕ) → l < j → cost M (levelAt levels l) ≡ getD lowers l (pos 0)
+  at-costs g zero k c l h = absurd (omega arith)
+  at-costs g (suc j) k c l h = by (ℕ-discrete l j) (at-costs g j (omega arith) (c .1) l)
+    where
+      by : Dec (l ≡ j) → (l < j → cost M (levelAt levels l) ≡ getD lowers l (pos 0)) → cost M (levelAt levels l) ≡ getD lowers l (pos 0)
+      by (yes z) r = rw z (cost-above S f M j ∙ ap (above (startAt levels j)) (c .0) ∙ sym (g j (omega arith)))
+      by (no z) r = r (omega arith)
 
 -- ---- the class of a query: "stable models with the settled costs"
 
@@ -89,21 +100,21 @@ both : (a b : Bool) → (a && b) ≡ true → (a ≡ true) × (b ≡ true)
 both true b e = (refl, e)
 both false b e = absurd (true≢false (sym e))
 
-module _ (S : Source) (f : FormedSource S) (level : ℕ) (lowers : List ℕ) where
+module _ (S : Source) (f : FormedSource S) (level : ℕ) (lowers : List ℤ) where
   abbrev Class : Set → Type 0
-  Class = Base (Model S) (pastAt (S .levels) level) (settledAt lowers level)
+  Class = Base (Model S) (pastAt (S .levels) level) (settledAt (S .levels) lowers level)
 
   pub class-yes : (M : Set) → Only (S .n) M → inClass S level lowers M ≡ true → Class M
   class-yes M o e =
       let z = both (isStable (S .n) (rulesIn S) M) (settledFrom (λ j. cost M (levelAt (S .levels) j)) lowers 0 level) e in (
         stable-yes (S .n) (rulesIn S) (f .rules .atoms) M o (is-true _ (z .0)),
-        costs-at (S .levels) lowers M level (λ l h. settled-all (λ j. cost M (levelAt (S .levels) j)) lowers 0 level (z .1) l zero-le (omega arith)),
+        costs-at S f lowers M level (λ l h. settled-all (λ j. cost M (levelAt (S .levels) j)) lowers 0 level (z .1) l zero-le (omega arith)),
       )
 
-  pub class-no : (M : Set) → Class M → inClass S level lowers M ≡ true
-  class-no M c =
+  pub class-no : Figured (S .levels) lowers → level ≤ many (S .levels) → (M : Set) → Class M → inClass S level lowers M ≡ true
+  class-no g k M c =
       rw (true-is (isStable (S .n) (rulesIn S) M) (yes-stable (S .n) (rulesIn S) (f .rules .atoms) M (c .0)))
-      (all-settled (λ j. cost M (levelAt (S .levels) j)) lowers 0 level (λ l a h. at-costs (S .levels) lowers M level (c .1) l (omega arith)))
+      (all-settled (λ j. cost M (levelAt (S .levels) j)) lowers 0 level (λ l a h. at-costs S f lowers M g level k (c .1) l (omega arith)))
 
 pub model-only : (S : Source) → FormedSource S → (M : Set) → Model S M → Only (S .n) M
 model-only S f M m = stable-only (S .n) (rulesIn S) (f .rules .atoms) M m
@@ -231,7 +242,7 @@ module _ (n : ℕ) (t : LevelTables) (s : ℕ) (ok : SoundTables t) (k : All (Ki
   below m h = rw literals-long (h .0)
 
 -- THE QUERY OF A LEVEL CAN BE ASKED
-module _ (S : Source) (f : FormedSource S) (level : ℕ) (lowers : List ℕ) (t : LevelTables) (s : ℕ) (h : level ≤ many (S .levels)) (l : length lowers ≡ 8) (ok : SoundTables t)
+module _ (S : Source) (f : FormedSource S) (level : ℕ) (lowers : List ℤ) (t : LevelTables) (s : ℕ) (h : level ≤ many (S .levels)) (l : length lowers ≡ 8) (ok : SoundTables t)
     (k : All (KindIn (S .n)) (levelOf t .kinds)) where
   pub level-ready : ReadyQuery S (queryOf level lowers t s)
   unfolding queryOf
@@ -250,12 +261,12 @@ module _ (S : Source) (f : FormedSource S) (level : ℕ) (lowers : List ℕ) (t 
   }
 
   -- AND ANSWERS FOR ITS CLASS
-  pub level-answers : Answers S (queryOf level lowers t s) (Base (Model S) (pastAt (S .levels) level) (settledAt lowers level)) (Holds s (levelOf t .rests))
+  pub level-answers : Figured (S .levels) lowers → Answers S (queryOf level lowers t s) (Base (Model S) (pastAt (S .levels) level) (settledAt (S .levels) lowers level)) (Holds s (levelOf t .rests))
       (λ M m. violated M (levelOf t .kinds) (levelOf t .cores) m ≡ false)
   unfolding queryOf
-  level-answers = record {
+  level-answers g = record {
     class-yes = class-yes S f level lowers;
-    class-no = class-no S f level lowers;
+    class-no = class-no S f level lowers g h;
     only = λ M c. model-only S f M (c .0);
     unbroken = λ M c. stable-unbroken (rulesIn S) M (c .0);
     entries = entry-heavy (S .n) t s ok k;
@@ -267,11 +278,11 @@ module _ (S : Source) (f : FormedSource S) (level : ℕ) (lowers : List ℕ) (t 
 
 -- THE FIRST QUERY
 module _ (S : Source) (f : FormedSource S) where
-  pub first-answers : Answers S (workQuery freshWork) (Model S) (λ m. ⊥) (λ M m. Unit {0})
+  pub first-answers : Answers S (workQuery (firstWork (S .levels))) (Model S) (λ m. ⊥) (λ M m. Unit {0})
   unfolding queryOf assumedFrom keep
   first-answers = record {
-    class-yes = λ M o e. class-yes S f 0 (freshWork .lowers) M o e .0;
-    class-no = λ M c. class-no S f 0 (freshWork .lowers) M (c, tt);
+    class-yes = λ M o e. class-yes S f 0 (firstWork (S .levels) .lowers) M o e .0;
+    class-no = λ M c. class-no S f 0 (firstWork (S .levels) .lowers) (λ j h. is-above (startAt (S .levels) j) 0 (start-at (S .levels) j h ∙ sym (above-none (startAt (S .levels) j)))) zero-le M (c, tt);
     only = model-only S f;
     unbroken = λ M c. stable-unbroken (rulesIn S) M c;
     entries = λ i h. absurd (omega arith);

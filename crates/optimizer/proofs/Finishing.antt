@@ -1,28 +1,32 @@
 -- What holds in the loops that end a query, and what each function of module `finish` gives. Assumes nothing.
 use mathlib.Core.Path.{_≡_, refl, sym, ap, ap₂, _∙_, subst}
-use mathlib.Core.Logic.{_≢_}
 use mathlib.Core.Bool.{Bool, true, false, _&&_}
-use mathlib.Core.List.{List}
+use mathlib.Core.List.{List, [], _∷_}
 use Prim.Native.Nat.{ℕ, suc, _+_, _-_, _≤_, _<_}
 use native.Mathlib.Omega.{arith}
-use mir.Syntax.{w32}
+use mir.Syntax.{w32, w64}
 use mir.Val.{SFits, toZ, ofZ}
 use mir.Facts.{toZ-ofZ}
-use lib.Dec.{eqb, ltb}
-use lib.IntN.{ℤ, pos, natAbs}
-use lib.ListN.{length, getD, take}
-use borrow.Author.Tests.{eq-eqb, ne-eqb, lt-ltb, le-ltb}
+use lib.Dec.{ltb}
+use lib.IntN.{ℤ, pos, natAbs, _+ℤ_}
+use lib.Signed.{ltZ}
+use lib.ListN.{length, getD, set, take, length-map}
+use borrow.Author.Tests.{lt-ltb, le-ltb}
 use Rattle.asp.specs.Sets.{pick}
-use Rattle.asp.specs.Program.{Entry, LiteralIn}
+use Rattle.asp.specs.Literal.{sameℤ}
+use Rattle.asp.specs.Program.{Entry, All, LiteralIn}
 use Rattle.asp.specs.Tables.{entryAt}
 use Rattle.asp.proofs.Spans.{length-span, all-map}
 use Rattle.asp.specs.Cost.{level, cheaper}
+use Rattle.asp.specs.Penalty.{Penalty, penalty, penalties}
+use Rattle.asp.proofs.Paying.{entry-atom}
+use Rattle.asp.proofs.Penalties.{paid-atom}
 use Rattle.cores.specs.declared.level.LevelTables.{LevelTables}
-use Rattle.cores.specs.Level.{under, greatest, coreFits, FormedEntries}
+use Rattle.cores.specs.Level.{under, greatest, coreFits, FormedPenalties}
 use Rattle.cores.specs.Level as lev
 use Rattle.cores.specs.Tables.{levelOf, heldIn, openedTables, recordedTables, FormedTables, Counted, tried}
 use Rattle.cores.proofs.Kept.{level-formed, opened-means, opened-sound, first-stratum}
-use Rattle.optimizer.specs.Source.{Levels, many, entriesIn, levelAt, FormedLevels}
+use Rattle.optimizer.specs.Source.{Levels, many, entriesIn, penaltiesAt, FormedLevels}
 use Rattle.optimizer.specs.declared.state.Work.{Work}
 use Rattle.optimizer.specs.declared.state.Phase.{Phase}
 use Rattle.optimizer.specs.declared.state.Phase.the-variants.{First, Level, Optimum, Incoherent, Full}
@@ -32,43 +36,43 @@ use Rattle.optimizer.specs.State.{work}
 use Rattle.optimizer.specs.declared.finish.Ending.{Ending}
 use Rattle.optimizer.specs.Finish.{nextFrom, Placed, placed, begunAt, openAt, openFrom, settleOf, costsOf, withBest, betterOf, fallen, fallenTo, withTables, triedWork, finishFirst, finishOf, asksCore, recordsOf, recordedWork, finishedLevel, finishedOf, ending, standingOf, openedIf, Ends}
 
--- ---- the next level that is not settled at 0
+-- ---- the next level on which the bounds are not equal
 
-pub record Seeking (uppers : List ℕ) (j k i : ℕ) : Type 0 where
+pub record Seeking (lowers uppers : List ℤ) (j k i : ℕ) : Type 0 where
   pub below : i ≤ k
-  pub rest : nextFrom uppers i (k - i) ≡ nextFrom uppers j (k - j)
+  pub rest : nextFrom lowers uppers i (k - i) ≡ nextFrom lowers uppers j (k - j)
 
-pub seek-start : (uppers : List ℕ) (j k : ℕ) → j ≤ k → Seeking uppers j k j
-seek-start uppers j k h = record { below = h; rest = refl }
+pub seek-start : (lowers uppers : List ℤ) (j k : ℕ) → j ≤ k → Seeking lowers uppers j k j
+seek-start lowers uppers j k h = record { below = h; rest = refl }
 
-seek-one : (uppers : List ℕ) (i k : ℕ) → i < k → nextFrom uppers i (k - i) ≡ pick (eqb (getD uppers i 0) 0) (nextFrom uppers (i + 1) (k - (i + 1))) i
+seek-one : (lowers uppers : List ℤ) (i k : ℕ) → i < k
+    → nextFrom lowers uppers i (k - i) ≡ pick (sameℤ (getD uppers i (pos 0)) (getD lowers i (pos 0))) (nextFrom lowers uppers (i + 1) (k - (i + 1))) i
 unfolding nextFrom
-seek-one uppers i k h = let q : k - i ≡ suc (k - (i + 1)) = omega arith in rw q
+seek-one lowers uppers i k h = let q : k - i ≡ suc (k - (i + 1)) = omega arith in rw q
 
-module _ {uppers : List ℕ} {j k i : ℕ} where
-  pub seek-next : Seeking uppers j k i → i < k → getD uppers i 0 ≡ 0 → Seeking uppers j k (i + 1)
-  seek-next s h e = record {
+module _ {lowers uppers : List ℤ} {j k i : ℕ} where
+  pub seek-next : Seeking lowers uppers j k i → i < k → {b : Bool} → b ≡ sameℤ (getD uppers i (pos 0)) (getD lowers i (pos 0)) → b ≡ true → Seeking lowers uppers j k (i + 1)
+  seek-next s h e t = record {
     below = omega arith;
-    rest = sym (seek-one uppers i k h ∙ ap (λ (b : Bool). pick b (nextFrom uppers (i + 1) (k - (i + 1))) i) (eq-eqb (getD uppers i 0) 0 e)) ∙ s .rest;
+    rest = sym (seek-one lowers uppers i k h ∙ ap (λ (b : Bool). pick b (nextFrom lowers uppers (i + 1) (k - (i + 1))) i) (sym e ∙ t)) ∙ s .rest;
   }
 
-  pub seek-found : Seeking uppers j k i → i < k → getD uppers i 0 ≢ 0 → i ≡ nextFrom uppers j (k - j)
-  seek-found s h n =
-      sym (seek-one uppers i k h ∙ ap (λ (b : Bool). pick b (nextFrom uppers (i + 1) (k - (i + 1))) i) (ne-eqb (getD uppers i 0) 0 n)) ∙ s .rest
+  pub seek-found : Seeking lowers uppers j k i → i < k → {b : Bool} → b ≡ sameℤ (getD uppers i (pos 0)) (getD lowers i (pos 0)) → b ≡ false → i ≡ nextFrom lowers uppers j (k - j)
+  seek-found s h e t = sym (seek-one lowers uppers i k h ∙ ap (λ (b : Bool). pick b (nextFrom lowers uppers (i + 1) (k - (i + 1))) i) (sym e ∙ t)) ∙ s .rest
 
-  pub seek-end : Seeking uppers j k i → k ≤ i → i ≡ nextFrom uppers j (k - j)
+  pub seek-end : Seeking lowers uppers j k i → k ≤ i → i ≡ nextFrom lowers uppers j (k - j)
   unfolding nextFrom
   seek-end s h = let q : k - i ≡ 0 = omega arith in rw q at (s .rest)
 
 -- ---- the best model
 
-pub best-is : (L : Levels) (w : Work) (v : List ℕ) {x : List ℕ} → x ≡ costsOf L v → work (w .level) (w .tables) (w .stratum) (w .lowers) x v ≡ withBest L w v
-best-is L w v e = ap (λ (x : List ℕ). work (w .level) (w .tables) (w .stratum) (w .lowers) x v) e
+pub best-is : (L : Levels) (w : Work) (v : List ℕ) {x : List ℤ} → x ≡ costsOf L v → work (w .level) (w .tables) (w .stratum) (w .lowers) x v ≡ withBest L w v
+best-is L w v e = ap (λ (x : List ℤ). work (w .level) (w .tables) (w .stratum) (w .lowers) x v) e
 
-module _ (L : Levels) (w : Work) (v : List ℕ) {x : List ℕ} {b : Bool} (e : x ≡ costsOf L v) (q : b ≡ cheaper ltb (take (many L) x) (take (many L) (w .uppers))) where
+module _ (L : Levels) (w : Work) (v : List ℕ) {x : List ℤ} {b : Bool} (e : x ≡ costsOf L v) (q : b ≡ cheaper ltZ (take (many L) x) (take (many L) (w .uppers))) where
   found : betterOf L w v ≡ pick b (withBest L w v) w
   unfolding betterOf
-  found = ap (λ (z : Bool). pick z (withBest L w v) w) (sym (q ∙ ap (λ (y : List ℕ). cheaper ltb (take (many L) y) (take (many L) (w .uppers))) e))
+  found = ap (λ (z : Bool). pick z (withBest L w v) w) (sym (q ∙ ap (λ (y : List ℤ). cheaper ltZ (take (many L) y) (take (many L) (w .uppers))) e))
 
   pub better-yes : b ≡ true → {r : Work} → r ≡ withBest L w v → r ≡ betterOf L w v
   better-yes t f = f ∙ sym (found ∙ ap (λ (z : Bool). pick z (withBest L w v) w) t)
@@ -78,27 +82,37 @@ module _ (L : Levels) (w : Work) (v : List ℕ) {x : List ℕ} {b : Bool} (e : x
 
 -- ---- a level is opened. Its priority, which goes from one call to the next, stands as `toZ w32 (ofZ w32 p)`.
 
-pub formed-in : (L : Levels) → FormedLevels L → FormedEntries (entriesIn L)
+all-penalties : (P : Penalty → Type 0) (es : List Entry) → All (λ (e : Entry). P (penalty e)) es → All P (penalties es)
+all-penalties P [] a = tt
+all-penalties P (e ∷ es) a = (a .0, all-penalties P es (a .1))
+
+pub formed-in : (L : Levels) → FormedLevels L → FormedPenalties (penalties (entriesIn L))
 formed-in L f = record {
-  few = omega (arith, f .few, length-span (entryAt (L .priorities) (L .literals) (L .weights)) 0 (L .entrycount));
-  atoms = all-map (λ (e : Entry). LiteralIn 1024 (e .literal)) (λ (e : Entry). natAbs (e .literal) ≤ 1024) (λ e h. h .1) (entriesIn L) (f .entries .atoms);
-  weights = f .light;
+  few = omega (arith, f .few, length-span (entryAt (L .priorities) (L .literals) (L .weights)) 0 (L .entrycount), length-map (entriesIn L) penalty);
+  atoms =
+      all-penalties (λ (p : Penalty). natAbs (p .literal) ≤ 1024) (entriesIn L)
+      (all-map (λ (e : Entry). LiteralIn 1024 (e .literal)) (λ (e : Entry). natAbs (penalty e .literal) ≤ 1024) (λ e h. rw (paid-atom (e .literal) (e .weight)) (h .1)) (entriesIn L) (f .entries .atoms));
+  weights = all-penalties (λ (p : Penalty). p .weight ≤ 1000000) (entriesIn L) (f .light);
 }
 
-module _ (L : Levels) (j : ℕ) (f : FormedLevels L) {p : ℤ} (k : SFits w32 p) (e : p ≡ getD (L .levels) j (pos 0)) {t : LevelTables} (o : t ≡ openedTables (level (toZ w32 (ofZ w32 p)) (entriesIn L))) where
-  formed-at : FormedEntries (levelAt L j)
+-- the literals of the entries are small
+pub entries-small : (L : Levels) → FormedLevels L → (i : ℕ) → i < L .entrycount → natAbs (getD (L .literals) i (pos 0)) ≤ 1024
+entries-small L f = entry-atom (f .entries)
+
+module _ (L : Levels) (j : ℕ) (f : FormedLevels L) {p : ℤ} (k : SFits w32 p) (e : p ≡ getD (L .levels) j (pos 0)) {t : LevelTables} (o : t ≡ openedTables (penalties (level (toZ w32 (ofZ w32 p)) (entriesIn L)))) where
+  formed-at : FormedPenalties (penaltiesAt L j)
   formed-at = level-formed (entriesIn L) (formed-in L f) (getD (L .levels) j (pos 0))
 
-  tables-are : t ≡ openedTables (levelAt L j)
-  tables-are = o ∙ ap (λ (q : ℤ). openedTables (level q (entriesIn L))) (toZ-ofZ k ∙ e)
+  tables-are : t ≡ openedTables (penaltiesAt L j)
+  tables-are = o ∙ ap (λ (q : ℤ). openedTables (penalties (level q (entriesIn L)))) (toZ-ofZ k ∙ e)
 
   pub begun-formed : FormedTables t
-  begun-formed = subst FormedTables (sym tables-are) (opened-sound (levelAt L j) formed-at .formed)
+  begun-formed = subst FormedTables (sym tables-are) (opened-sound (penaltiesAt L j) formed-at .formed)
 
-  stratum-is : under 1000001 (levelOf t .rests) ≡ greatest (levelOf (openedTables (levelAt L j)) .rests)
+  stratum-is : under 1000001 (levelOf t .rests) ≡ greatest (levelOf (openedTables (penaltiesAt L j)) .rests)
   stratum-is =
-      ap (λ (u : LevelTables). under 1000001 (levelOf u .rests)) tables-are ∙ first-stratum (levelAt L j) formed-at
-      ∙ ap (λ (l : lev.Level). greatest (l .rests)) (sym (opened-means (levelAt L j) formed-at))
+      ap (λ (u : LevelTables). under 1000001 (levelOf u .rests)) tables-are ∙ first-stratum (penaltiesAt L j) formed-at
+      ∙ ap (λ (l : lev.Level). greatest (l .rests)) (sym (opened-means (penaltiesAt L j) formed-at))
 
   pub begun-is : (w : Work) → {s : ℕ} → s ≡ under 1000001 (levelOf t .rests) → work j t s (w .lowers) (w .uppers) (w .best) ≡ begunAt L w j
   begun-is w {s} q = ap₂ (λ (u : LevelTables) (z : ℕ). work j u z (w .lowers) (w .uppers) (w .best)) tables-are (q ∙ stratum-is)
@@ -119,7 +133,7 @@ ends-at a q = record { is = a .is ∙ q; within = a .within }
 abbrev atLevel : ℕ → Work → Work
 atLevel i w = work i (w .tables) (w .stratum) (w .lowers) (w .uppers) (w .best)
 
-module _ (L : Levels) (w : Work) (j : ℕ) {i : ℕ} (q : i ≡ nextFrom (w .uppers) j (many L - j)) where
+module _ (L : Levels) (w : Work) (j : ℕ) {i : ℕ} (q : i ≡ nextFrom (w .lowers) (w .uppers) j (many L - j)) where
   from-there : {e : Ending} → Ends L w e (openAt L w i) → Ends L w e (openFrom L w j)
   unfolding openFrom
   from-there a = ends-at a (ap (openAt L w) q)
@@ -139,14 +153,13 @@ module _ (L : Levels) (w : Work) (j : ℕ) {i : ℕ} (q : i ≡ nextFrom (w .upp
 -- ---- the level is settled, or not
 
 module _ (L : Levels) (w : Work) {e : Ending} where
-  pub settle-yes : getD (w .uppers) (w .level) 0 ≡ w .tables .lower → Ends L w e (openFrom L w (w .level + 1)) → Ends L w e (settleOf L w)
+  pub settle-yes : {b : Bool} → b ≡ sameℤ (getD (w .uppers) (w .level) (pos 0)) (getD (w .lowers) (w .level) (pos 0)) → b ≡ true → Ends L w e (openFrom L w (w .level + 1)) → Ends L w e (settleOf L w)
   unfolding settleOf
-  settle-yes h a = ends-at a (sym (ap (λ (b : Bool). pick b (openFrom L w (w .level + 1)) (placed Level w)) (eq-eqb (getD (w .uppers) (w .level) 0) (w .tables .lower) h)))
+  settle-yes h t a = ends-at a (sym (ap (λ (b : Bool). pick b (openFrom L w (w .level + 1)) (placed Level w)) (sym h ∙ t)))
 
-  pub settle-no : getD (w .uppers) (w .level) 0 ≢ w .tables .lower → e ≡ ending Level false w → Ends L w e (settleOf L w)
+  pub settle-no : {b : Bool} → b ≡ sameℤ (getD (w .uppers) (w .level) (pos 0)) (getD (w .lowers) (w .level) (pos 0)) → b ≡ false → e ≡ ending Level false w → Ends L w e (settleOf L w)
   unfolding settleOf
-  settle-no n q =
-      ends-at (still L Level w q) (sym (ap (λ (b : Bool). pick b (openFrom L w (w .level + 1)) (placed Level w)) (ne-eqb (getD (w .uppers) (w .level) 0) (w .tables .lower) n)))
+  settle-no h t q = ends-at (still L Level w q) (sym (ap (λ (b : Bool). pick b (openFrom L w (w .level + 1)) (placed Level w)) (sym h ∙ t)))
 
 -- ---- the end of the first query
 
@@ -168,7 +181,7 @@ module _ (L : Levels) (w : Work) (v : List ℕ) {x : Turn} {e : Ending} where
 better-keeps : (P : Work → Type 0) (L : Levels) (w : Work) (v : List ℕ) → P (withBest L w v) → P w → P (betterOf L w v)
 unfolding betterOf
 better-keeps P L w v h k =
-    elim (cheaper ltb (take (many L) (costsOf L v)) (take (many L) (w .uppers))) as (λ b. P (pick b (withBest L w v) w)) [ true ↦ h | false ↦ k ]
+    elim (cheaper ltZ (take (many L) (costsOf L v)) (take (many L) (w .uppers))) as (λ b. P (pick b (withBest L w v) w)) [ true ↦ h | false ↦ k ]
 
 pub better-level : (L : Levels) (w : Work) (v : List ℕ) {n : ℕ} → w .level < n → {b : Work} → b ≡ betterOf L w v → {s : ℕ} {u : Work} → u ≡ fallenTo s b → u .level < n
 better-level L w v {n} h e {s} q = subst (λ (u : Work). u .level < n) (sym (q ∙ ap (fallenTo s) e)) (better-keeps (λ b. b .level < n) L w v h h)
@@ -253,8 +266,17 @@ module _ (p : Phase) (x : Turn) (t : LevelTables) (n : ℕ) {a : Bool} (q : a �
   pub records-counted : (p ≡ Level → x ≡ Without → Counted t n) → a ≡ true → Counted t n
   records-counted f h = f (asks-level p x (sym q ∙ h)) (asks-without p x (sym q ∙ h))
 
-pub recorded-is : (w : Work) (ms : List ℕ) {t : LevelTables} → t ≡ recordedTables (w .tables) (w .stratum) ms → withTables w t ≡ recordedWork w ms
-recorded-is w ms e = ap (withTables w) e
+-- the bound that rises, as it is read, raised and kept
+pub recorded-is : (w : Work) (ms : List ℕ) {t : LevelTables} → t ≡ recordedTables (w .tables) (w .stratum) ms
+    → {a b r : ℤ} → SFits w64 a → SFits w64 b → SFits w64 r → a ≡ getD (w .lowers) (w .level) (pos 0) → b ≡ pos (w .stratum) → r ≡ toZ w64 (ofZ w64 a) +ℤ toZ w64 (ofZ w64 b)
+    → work (w .level) t (w .stratum) (set (w .lowers) (w .level) (toZ w64 (ofZ w64 r))) (w .uppers) (w .best) ≡ recordedWork w ms
+recorded-is w ms e {a} {b} {r} f g h x y z =
+    ap₂ (λ (u : LevelTables) (v : ℤ). work (w .level) u (w .stratum) (set (w .lowers) (w .level) v) (w .uppers) (w .best)) e
+    (toZ-ofZ h ∙ z ∙ ap₂ (λ (p q : ℤ). p +ℤ q) (toZ-ofZ f ∙ x) (toZ-ofZ g ∙ y))
+
+-- and it is small enough to be raised
+pub bound-small : {a : ℤ} → SFits w64 a → natAbs a ≤ 2000000000 → natAbs (toZ w64 (ofZ w64 a)) ≤ 1000000000000000000
+bound-small f h = rw (toZ-ofZ f) (omega arith)
 
 -- by the figures the end comes to what it is
 pub finish-by : (L : Levels) (p : Phase) (w : Work) (v ms : List ℕ) (x : Turn) {b : Bool} → b ≡ recordsOf p x (w .tables) (length ms)

@@ -3,7 +3,7 @@ use mathlib.Core.Path.{_≡_, refl}
 use mathlib.Core.List.{[]}
 use Prim.Native.Nat.{ℕ, zero, suc, zero-le}
 use native.Mathlib.Omega.{arith}
-use lib.ListN.{replicate, drop, length-replicate}
+use lib.ListN.{replicate, drop}
 use Rattle.asp.specs.Stable.{keep}
 use Rattle.search.specs.Places.{freshPlaces, SoundTrail}
 use Rattle.search.proofs.Steps.{fresh-sound}
@@ -13,7 +13,8 @@ use Rattle.cores.proofs.Kept.{empty-sound}
 use Rattle.cores.proofs.Unpacked.{judging-formed}
 use Rattle.optimizer.specs.Source.{Source, FormedSource}
 use Rattle.optimizer.specs.Turn.{queryOf}
-use Rattle.optimizer.specs.State.{freshWork}
+use Rattle.optimizer.specs.State.{firstWork}
+use Rattle.optimizer.proofs.Figures.{starts-long}
 use Rattle.optimizer.specs.Advance.{workQuery}
 use Rattle.optimizer.specs.Ready.{ReadyQuery}
 
@@ -22,12 +23,12 @@ drop-all zero = refl
 drop-all (suc n) = drop-all n
 
 module _ (S : Source) (f : FormedSource S) where
-  pub fresh-query : ReadyQuery S (workQuery freshWork)
+  pub fresh-query : ReadyQuery S (workQuery (firstWork (S .levels)))
   unfolding queryOf assumedFrom keep
   fresh-query = record {
     source = f;
     level = zero-le;
-    lowers-len = length-replicate {A = ℕ} 8 0;
+    lowers-len = starts-long (S .levels) (f .levels .levels-few);
     wished-in = λ i h. absurd (omega arith);
     wished-few = zero-le;
     places-long = refl;

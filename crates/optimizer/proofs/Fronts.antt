@@ -66,13 +66,13 @@ module _ (s : ℕ) (ws : List ℕ) {qs : List ℕ} {m : ℕ} (h : length ws ≤ 
         omega (arith, among-few, ap (λ (x : Paired). x .count) e₂, ap (λ (x : Paired). length (x .pairs .wishes)) e₂ ∙ length-sets (replicate 4096 (pos 0)) 0 (map (λ (p : ℕ). negℤ (getD ls p (pos 0))) (entriesAmong js (take m qs))) ∙ length-replicate {A = ℤ} 4096 (pos 0))
 
     -- the columns' query is the one that these fronts give
-    pub fronts-query : (level : ℕ) (lowers is es ms : List ℕ)
+    pub fronts-query : (level : ℕ) (lowers : List ℤ) (is es ms : List ℕ)
         → queryTables level lowers (take k os) (take k ps) (take m qs) (judging ls js is es ms) ≡ queryBy level lowers (judging ls js is es ms) ws s
     fronts-query level lowers is es ms =
         ap₂ (λ (a : List ℤ) (b : List ℕ). queryTables level lowers a b (take m qs) (judging ls js is es ms)) wished-front spots-front
         ∙ ap (λ (a : List ℕ). queryTables level lowers (map (λ (p : ℕ). negℤ (getD ls p (pos 0))) (entriesAmong js a)) (entriesAmong js a) a (judging ls js is es ms)) assumed-is
 
 -- the query of the level's tables is that of its columns
-pub columns-query : (t : LevelTables) (c : Columns) → FilledColumns t c → (level s : ℕ) (lowers : List ℕ) → queryBy level lowers (cutJudging t c) (take (t .count) (c .weights)) s ≡ queryOf level lowers t s
+pub columns-query : (t : LevelTables) (c : Columns) → FilledColumns t c → (level s : ℕ) (lowers : List ℤ) → queryBy level lowers (cutJudging t c) (take (t .count) (c .weights)) s ≡ queryOf level lowers t s
 unfolding queryOf
 columns-query t c q level s lowers = ap₂ (λ (j : Judging) (r : List ℕ). queryBy level lowers j r s) (cut-is t c q) (q .weights)

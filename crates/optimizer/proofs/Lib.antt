@@ -6,6 +6,7 @@ pub mod Fronts
 pub mod Running
 pub mod Preparing
 pub mod Advancing
+pub mod Figures
 pub mod Fresh
 pub mod Verdicts
 pub mod Classes

@@ -4,37 +4,40 @@ use mathlib.Core.Bool.{Bool, true, false}
 use mathlib.Core.List.{List, [], _∷_, _++_, map}
 use Prim.Native.Nat.{ℕ, zero, suc, _+_, _-_, _≤_, _<_}
 use native.Mathlib.Numerals.{add-one}
-use native.Mathlib.Nat.{zero-add}
+use native.Mathlib.Decide.{ℕ-discrete}
 use native.Mathlib.Omega.{arith}
 use lib.Dec.{eqb, ltb}
 use lib.IntN.{ℤ, pos}
-use lib.ListN.{length, getD, set, take, drop, replicate, length-set, length-replicate, length-drop}
+use lib.ListN.{length, getD, set, take, length-set}
+use lib.Signed.{ltZ}
 use lib.Seq.{getD-set-same, getD-set-other}
 use borrow.Author.Tests.{lt-ltb, le-ltb}
 use Rattle.asp.specs.Sets.{Set, setOf, pick}
+use Rattle.asp.specs.Literal.{sameℤ}
 use Rattle.asp.specs.Program.{Entry, All, LiteralIn}
-use Rattle.asp.specs.Cost.{cost, costsAt, cheaper, level}
-use Rattle.asp.specs.Tables.{span, literalsAt}
-use Rattle.asp.proofs.Spans.{length-span, map-span}
+use Rattle.asp.specs.Cost.{cheaper}
+use Rattle.asp.specs.Penalty.{Penalty, penalties, charge, above, rise}
+use Rattle.asp.specs.Tables.{span}
+use Rattle.asp.proofs.Penalties.{paid-atom, rise-above, rise-none, above-none, above-more, above-same, cheaper-aboves, IsAbove, is-above}
 use Rattle.cores.specs.Soft.{entry}
 use Rattle.cores.specs.Level as lev
-use Rattle.cores.specs.Level.{weighty, greatest, under, recorded, derivedFrom, fewer, coreFits, room, FormedEntries}
+use Rattle.cores.specs.Level.{weighty, greatest, under, recorded, derivedFrom, fewer, coreFits, room, FormedPenalties}
 use Rattle.cores.specs.Tables.{SoundTables, levelOf, heldIn, recordedTables, Room, tried, triedTables}
 use Rattle.cores.specs.declared.level.LevelTables.{LevelTables}
-use Rattle.cores.proofs.Spans.{getD-span}
-use Rattle.cores.proofs.Kept.{level-formed, opened-means, opened-sound, recorded-means, recorded-sound, core-counted, level-all, weighty-all}
+use Rattle.cores.proofs.Kept.{level-formed, opened-means, opened-sound, recorded-means, recorded-sound, core-counted, level-penalties, weighty-all}
 use Rattle.cores.proofs.Links.{fits-room}
 use Rattle.cores.proofs.Loops.{try-room}
 use Rattle.optimizer.specs.declared.state.Phase.{Phase}
 use Rattle.optimizer.specs.declared.state.Phase.the-variants.{First, Level, Optimum, Incoherent, Full}
 use Rattle.optimizer.specs.declared.state.Work.{Work}
-use Rattle.optimum.specs.Optimize.{State, working, full, costsOn, openNext, settle, withCore, withModel, noModel, begun}
+use Rattle.optimum.specs.Optimize.{State, working, full, chargesOn, openNext, settle, withCore, withModel, noModel, begun}
 use Rattle.optimum.specs.Optimize as abstract
-use Rattle.optimizer.specs.Source.{Levels, Source, many, levelAt, levelsIn, entriesIn, FormedSource}
-use Rattle.optimizer.specs.State.{work, freshWork}
+use Rattle.optimizer.specs.Source.{Levels, Source, many, startAt, penaltiesAt, penaltiesIn, entriesIn, FormedSource}
+use Rattle.optimizer.specs.State.{work, firstWork}
 use Rattle.optimizer.specs.Finish.{Placed, placed, nextFrom, begunAt, openAt, openFrom, settleOf, costsOf, withBest, betterOf, fallen, withTables, triedWork}
 use Rattle.optimizer.specs.Meaning.{pastAt, settledAt, laterAt, workOf, meantBy}
 use Rattle.optimizer.proofs.Classes.{KindIn}
+use Rattle.optimizer.proofs.Figures.{Figured, startsIn, costs-are, cost-at, cost-above, costs-above, starts-many, charges-many}
 use Rattle.optimizer.proofs.Finishing.{formed-in}
 
 -- ---- what the end of a query means
@@ -49,72 +52,39 @@ pub record OnLevel (S : Source) (w : Work) : Type 0 where
   pub sound : SoundTables (w .tables)
   pub kinds : All (KindIn (S .n)) (levelOf (w .tables) .kinds)
   pub lowers-len : length (w .lowers) ≡ 8
-  pub lower-is : getD (w .lowers) (w .level) 0 ≡ w .tables .lower
-  pub zeros : (j : ℕ) → w .level < j → getD (w .lowers) j 0 ≡ 0
+  pub figured : Figured (S .levels) (w .lowers)
+  pub lower-is : getD (w .lowers) (w .level) (pos 0) ≡ above (startAt (S .levels) (w .level)) (w .tables .lower)
+  pub starts : (j : ℕ) → w .level < j → j < many (S .levels) → getD (w .lowers) j (pos 0) ≡ startAt (S .levels) j
   pub uppers : w .uppers ≡ costsOf (S .levels) (w .best)
 
 pub record AtEnd (S : Source) (w : Work) : Type 0 where
   pub level : w .level ≡ many (S .levels)
   pub lowers-len : length (w .lowers) ≡ 8
+  pub figured : Figured (S .levels) (w .lowers)
   pub uppers : w .uppers ≡ costsOf (S .levels) (w .best)
   pub sound : SoundTables (w .tables)
   pub kinds : All (KindIn (S .n)) (levelOf (w .tables) .kinds)
 
 abbrev pub InOrder : Source → Phase → Work → Type 0
-InOrder S First w = w ≡ freshWork
+InOrder S First w = w ≡ (firstWork (S .levels))
 InOrder S Level w = OnLevel S w
 InOrder S Optimum w = AtEnd S w
-InOrder S Incoherent w = w ≡ freshWork
+InOrder S Incoherent w = w ≡ (firstWork (S .levels))
 InOrder S Full w = OnLevel S w
 
 abbrev pub Ordered : Source → Placed → Type 0
 Ordered S x = InOrder S (x .phase) (x .work)
 
--- ---- costs
-
-take-front : {A : Type 0} (xs ys : List A) (n : ℕ) → length xs ≡ n → take n (xs ++ ys) ≡ xs
-take-front [] ys zero e = refl
-take-front [] ys (suc n) e = absurd (omega arith)
-take-front (x ∷ xs) ys zero e = absurd (omega arith)
-take-front {A} (x ∷ xs) ys (suc n) e = ap (λ (zs : List A). x ∷ zs) (take-front xs ys n (omega arith))
-
-getD-front : (xs ys : List ℕ) (j : ℕ) → j < length xs → getD (xs ++ ys) j 0 ≡ getD xs j 0
-getD-front [] ys j h = absurd (omega arith)
-getD-front (x ∷ xs) ys zero h = refl
-getD-front (x ∷ xs) ys (suc j) h = getD-front xs ys j (omega arith)
-
-module _ (L : Levels) (v : List ℕ) where
-  abbrev listed : List ℕ
-  listed = costsAt (setOf v) (literalsAt (L .levels) 0 (many L)) (entriesIn L)
-
-  listed-is : listed ≡ span (λ j. cost (setOf v) (levelAt L j)) 0 (many L)
-  listed-is = map-span (λ (q : ℤ). cost (setOf v) (level q (entriesIn L))) (λ j. getD (L .levels) j (pos 0)) 0 (many L)
-
-  listed-long : length listed ≡ many L
-  listed-long = ap length listed-is ∙ length-span (λ j. cost (setOf v) (levelAt L j)) 0 (many L)
-
-  -- the costs as the levels say them
-  pub costs-are : take (many L) (costsOf L v) ≡ costsOn (setOf v) (levelsIn L)
-  costs-are = take-front listed (drop (many L) (replicate 8 0)) (many L) listed-long ∙ listed-is ∙ sym (map-span (cost (setOf v)) (levelAt L) 0 (many L))
-
-  pub cost-at : (j : ℕ) → j < many L → getD (costsOf L v) j 0 ≡ cost (setOf v) (levelAt L j)
-  cost-at j h =
-      getD-front listed (drop (many L) (replicate 8 0)) j (omega (arith, listed-long))
-      ∙ ap (λ (xs : List ℕ). getD xs j 0) listed-is ∙ getD-span (λ (i : ℕ). cost (setOf v) (levelAt L i)) 0 (many L) 0 j h
-      ∙ ap (λ (i : ℕ). cost (setOf v) (levelAt L i)) (zero-add j)
-
-  pub costs-long : many L ≤ 8 → length (costsOf L v) ≡ 8
-  costs-long h = length-both listed (drop (many L) (replicate 8 0)) ∙ ap₂ (λ (a b : ℕ). a + b) listed-long (length-drop (many L) (replicate {A = ℕ} 8 0) ∙ ap (λ (n : ℕ). n - many L) (length-replicate {A = ℕ} 8 0)) ∙ omega arith
-    where
-      length-both : (xs ys : List ℕ) → length (xs ++ ys) ≡ length xs + length ys
-      length-both [] ys = omega arith
-      length-both (x ∷ xs) ys = omega (arith, length-both xs ys)
-
 -- ---- kinds
 
-opened-kinds : (n : ℕ) (es : List Entry) → All (λ (e : Entry). LiteralIn n (e .literal)) es → All (KindIn n) (map (λ (e : Entry). entry (e .literal)) es)
+opened-kinds : (n : ℕ) (es : List Penalty) → All (λ (e : Penalty). LiteralIn n (e .literal)) es → All (KindIn n) (map (λ (e : Penalty). entry (e .literal)) es)
 opened-kinds n [] a = tt
 opened-kinds n (e ∷ es) a = (a .0, opened-kinds n es (a .1))
+
+-- the literals that cost are of the entries' atoms
+pub paid-in : (n : ℕ) (es : List Entry) → All (λ (e : Entry). LiteralIn n (e .literal)) es → All (λ (p : Penalty). LiteralIn n (p .literal)) (penalties es)
+paid-in n [] a = tt
+paid-in n (e ∷ es) a = (rw (paid-atom (e .literal) (e .weight)) (a .0), paid-in n es (a .1))
 
 derived-kinds : (n j i k : ℕ) → All (KindIn n) (derivedFrom j i k)
 derived-kinds n j i zero = tt
@@ -130,112 +100,138 @@ module _ (S : Source) (f : FormedSource S) where
   abbrev L : Levels
   L = S .levels
 
-  entries-at : (j : ℕ) → FormedEntries (levelAt L j)
-  entries-at j = level-formed (entriesIn L) (formed-in L (f .levels)) (getD (L .levels) j (pos 0))
+  formed-at : (j : ℕ) → FormedPenalties (penaltiesAt L j)
+  formed-at j = level-formed (entriesIn L) (formed-in L (f .levels)) (getD (L .levels) j (pos 0))
 
-  begun-order : (w : Work) (j : ℕ) → j < many L → length (w .lowers) ≡ 8 → ((i : ℕ) → j ≤ i → getD (w .lowers) i 0 ≡ 0) → w .uppers ≡ costsOf L (w .best) → OnLevel S (begunAt L w j)
-  begun-order w j h l z u = record {
+  -- where the bounds start from a place on
+  abbrev pub Unopened : Work → ℕ → Type 0
+  Unopened w j = (i : ℕ) → j ≤ i → i < many L → getD (w .lowers) i (pos 0) ≡ startAt L i
+
+  begun-order : (w : Work) (j : ℕ) → j < many L → length (w .lowers) ≡ 8 → Figured L (w .lowers) → Unopened w j → w .uppers ≡ costsOf L (w .best) → OnLevel S (begunAt L w j)
+  begun-order w j h l g z u = record {
     level = h;
-    sound = opened-sound (levelAt L j) (entries-at j);
+    sound = opened-sound (penaltiesAt L j) (formed-at j);
     kinds =
-        subst (λ (x : lev.Level). All (KindIn (S .n)) (x .kinds)) (sym (opened-means (levelAt L j) (entries-at j)))
-        (opened-kinds (S .n) (weighty (levelAt L j)) (weighty-all (λ e. LiteralIn (S .n) (e .literal)) (levelAt L j) (level-all (λ e. LiteralIn (S .n) (e .literal)) (getD (L .levels) j (pos 0)) (entriesIn L) (f .atoms))));
+        subst (λ (x : lev.Level). All (KindIn (S .n)) (x .kinds)) (sym (opened-means (penaltiesAt L j) (formed-at j)))
+        (opened-kinds (S .n) (weighty (penaltiesAt L j)) (weighty-all (λ e. LiteralIn (S .n) (e .literal)) (penaltiesAt L j) (level-penalties (λ e. LiteralIn (S .n) (e .literal)) (getD (L .levels) j (pos 0)) (entriesIn L) (paid-in (S .n) (entriesIn L) (f .atoms)))));
     lowers-len = l;
-    lower-is = z j (omega arith);
-    zeros = λ i g. z i (omega arith);
+    figured = g;
+    lower-is = z j (omega arith) h ∙ sym (above-none (startAt L j));
+    starts = λ i k. z i (omega arith);
     uppers = u;
   }
 
   begun-means : (c : ℕ) (w : Work) (j k : ℕ) → k ≡ many L - (j + 1)
-      → working c (workOf L (begunAt L w j)) [] [] ≡ working c (begun (pastAt L j) (settledAt (w .lowers) j) (levelAt L j) (span (levelAt L) (j + 1) k) (setOf (w .best))) [] []
+      → working c (workOf L (begunAt L w j)) [] [] ≡ working c (begun (pastAt L j) (settledAt L (w .lowers) j) (penaltiesAt L j) (span (penaltiesAt L) (j + 1) k) (setOf (w .best))) [] []
   begun-means c w j k e =
-      ap₂ (λ (t : lev.Level) (n : ℕ). working c (record { past = pastAt L j; settled = settledAt (w .lowers) j; level = levelAt L j; later = span (levelAt L) (j + 1) n; tables = t; stratum = greatest (t .rests); best = setOf (w .best) }) [] [])
-      (opened-means (levelAt L j) (entries-at j)) (sym e)
+      ap₂ (λ (t : lev.Level) (n : ℕ). working c (record { past = pastAt L j; settled = settledAt L (w .lowers) j; level = penaltiesAt L j; later = span (penaltiesAt L) (j + 1) n; tables = t; stratum = greatest (t .rests); best = setOf (w .best) }) [] [])
+      (opened-means (penaltiesAt L j) (formed-at j)) (sym e)
 
   pub record Opened (c : ℕ) (x : Placed) (s : State) : Type 0 where
     pub means : meantPlaced L c x ≡ s
     pub order : Ordered S x
 
-  open-at : (c : ℕ) (w : Work) (j k : ℕ) → j + k ≡ many L → length (w .lowers) ≡ 8 → ((i : ℕ) → j ≤ i → getD (w .lowers) i 0 ≡ 0) → w .uppers ≡ costsOf L (w .best)
+  open-at : (c : ℕ) (w : Work) (j k : ℕ) → j + k ≡ many L → length (w .lowers) ≡ 8 → Figured L (w .lowers) → Unopened w j → w .uppers ≡ costsOf L (w .best)
       → SoundTables (w .tables) → All (KindIn (S .n)) (levelOf (w .tables) .kinds)
-      → Opened c (openAt L w (nextFrom (w .uppers) j k)) (openNext c (pastAt L j) (settledAt (w .lowers) j) (span (levelAt L) j k) (setOf (w .best)))
+      → Opened c (openAt L w (nextFrom (w .lowers) (w .uppers) j k)) (openNext c (pastAt L j) (settledAt L (w .lowers) j) (span (penaltiesAt L) j k) (setOf (w .best)))
   unfolding nextFrom span
-  open-at c w j zero e l z u so ki =
-      rw (le-ltb j (many L) (omega arith)) (record { means = refl; order = record { level = omega arith; lowers-len = l; uppers = u; sound = so; kinds = ki } })
-  open-at c w j (suc k) e l z u so ki =
-      let q : getD (w .uppers) j 0 ≡ cost (setOf (w .best)) (levelAt L j) = ap (λ (x : List ℕ). getD x j 0) u ∙ cost-at L (w .best) j (omega arith) in
-      go q (eqb (cost (setOf (w .best)) (levelAt L j)) 0) refl (open-at c w (j + 1) k (omega arith) l (λ i h. z i (omega arith)) u so ki)
+  open-at c w j zero e l g z u so ki =
+      rw (le-ltb j (many L) (omega arith)) (record { means = refl; order = record { level = omega arith; lowers-len = l; figured = g; uppers = u; sound = so; kinds = ki } })
+  open-at c w j (suc k) e l g z u so ki = go (eqb charged 0) refl (open-at c w (j + 1) k (omega arith) l g (λ i h. z i (omega arith)) u so ki)
     where
-      go : getD (w .uppers) j 0 ≡ cost (setOf (w .best)) (levelAt L j) → (b : Bool) → eqb (cost (setOf (w .best)) (levelAt L j)) 0 ≡ b
-          → Opened c (openAt L w (nextFrom (w .uppers) (j + 1) k)) (openNext c (pastAt L (j + 1)) (settledAt (w .lowers) (j + 1)) (span (levelAt L) (j + 1) k) (setOf (w .best)))
-          → Opened c (openAt L w (pick (eqb (getD (w .uppers) j 0) 0) (nextFrom (w .uppers) (j + 1) k) j))
-          (pick b (openNext c (levelAt L j ∷ pastAt L j) (0 ∷ settledAt (w .lowers) j) (span (levelAt L) (j + 1) k) (setOf (w .best)))
-          (working c (begun (pastAt L j) (settledAt (w .lowers) j) (levelAt L j) (span (levelAt L) (j + 1) k) (setOf (w .best))) [] []))
-      go q true b r =
-          rw (ap (λ (x : ℕ). eqb x 0) q ∙ b)
-          (subst (λ (x : ℕ). Opened c (openAt L w (nextFrom (w .uppers) (j + 1) k)) (openNext c (levelAt L j ∷ pastAt L j) (x ∷ settledAt (w .lowers) j) (span (levelAt L) (j + 1) k) (setOf (w .best)))) (z j (omega arith))
-          (subst (λ (x : ℕ). Opened c (openAt L w (nextFrom (w .uppers) (j + 1) k)) (openNext c (pastAt L x) (settledAt (w .lowers) x) (span (levelAt L) (j + 1) k) (setOf (w .best)))) (add-one j) r))
-      go q false b r =
-          rw (ap (λ (x : ℕ). eqb x 0) q ∙ b, lt-ltb j (many L) (omega arith))
-          (record { means = begun-means c w j k (omega arith); order = begun-order w j (omega arith) l z u })
+      charged : ℕ
+      charged = charge (setOf (w .best)) (penaltiesAt L j)
 
-  pub open-from : (c : ℕ) (w : Work) (j : ℕ) → j ≤ many L → length (w .lowers) ≡ 8 → ((i : ℕ) → j ≤ i → getD (w .lowers) i 0 ≡ 0) → w .uppers ≡ costsOf L (w .best)
+      -- the bounds are equal just if nothing is charged
+      test : sameℤ (getD (w .uppers) j (pos 0)) (getD (w .lowers) j (pos 0)) ≡ eqb charged 0
+      test =
+          ap₂ sameℤ (ap (λ (x : List ℤ). getD x j (pos 0)) u ∙ cost-at L (w .best) j (omega arith) ∙ cost-above S f (setOf (w .best)) j) (z j (omega arith) (omega arith) ∙ sym (above-none (startAt L j)))
+          ∙ above-same (startAt L j) charged 0
+
+      unraised : rise (startAt L j) (getD (w .lowers) j (pos 0)) ≡ 0
+      unraised = ap (rise (startAt L j)) (z j (omega arith) (omega arith)) ∙ rise-none (startAt L j)
+
+      go : (b : Bool) → eqb charged 0 ≡ b
+          → Opened c (openAt L w (nextFrom (w .lowers) (w .uppers) (j + 1) k)) (openNext c (pastAt L (j + 1)) (settledAt L (w .lowers) (j + 1)) (span (penaltiesAt L) (j + 1) k) (setOf (w .best)))
+          → Opened c (openAt L w (pick (sameℤ (getD (w .uppers) j (pos 0)) (getD (w .lowers) j (pos 0))) (nextFrom (w .lowers) (w .uppers) (j + 1) k) j))
+          (pick b (openNext c (penaltiesAt L j ∷ pastAt L j) (0 ∷ settledAt L (w .lowers) j) (span (penaltiesAt L) (j + 1) k) (setOf (w .best)))
+          (working c (begun (pastAt L j) (settledAt L (w .lowers) j) (penaltiesAt L j) (span (penaltiesAt L) (j + 1) k) (setOf (w .best))) [] []))
+      go true b r =
+          rw (test ∙ b)
+          (subst (λ (x : ℕ). Opened c (openAt L w (nextFrom (w .lowers) (w .uppers) (j + 1) k)) (openNext c (penaltiesAt L j ∷ pastAt L j) (x ∷ settledAt L (w .lowers) j) (span (penaltiesAt L) (j + 1) k) (setOf (w .best)))) unraised
+          (subst (λ (x : ℕ). Opened c (openAt L w (nextFrom (w .lowers) (w .uppers) (j + 1) k)) (openNext c (pastAt L x) (settledAt L (w .lowers) x) (span (penaltiesAt L) (j + 1) k) (setOf (w .best)))) (add-one j) r))
+      go false b r =
+          rw (test ∙ b, lt-ltb j (many L) (omega arith))
+          (record { means = begun-means c w j k (omega arith); order = begun-order w j (omega arith) l g z u })
+
+  pub open-from : (c : ℕ) (w : Work) (j : ℕ) → j ≤ many L → length (w .lowers) ≡ 8 → Figured L (w .lowers) → Unopened w j → w .uppers ≡ costsOf L (w .best)
       → SoundTables (w .tables) → All (KindIn (S .n)) (levelOf (w .tables) .kinds)
-      → Opened c (openFrom L w j) (openNext c (pastAt L j) (settledAt (w .lowers) j) (laterAt L j) (setOf (w .best)))
+      → Opened c (openFrom L w j) (openNext c (pastAt L j) (settledAt L (w .lowers) j) (laterAt L j) (setOf (w .best)))
   unfolding openFrom
-  open-from c w j h l z u so ki = open-at c w j (many L - j) (omega arith) l z u so ki
+  open-from c w j h l g z u so ki = open-at c w j (many L - j) (omega arith) l g z u so ki
 
   -- ---- a level is settled, or not
 
   pub settle-means : (c : ℕ) (w : Work) → OnLevel S w → Opened c (settleOf L w) (settle c (workOf L w))
   unfolding settleOf
-  settle-means c w o = go (eqb (cost (setOf (w .best)) (levelAt L (w .level))) (w .tables .lower)) refl
+  settle-means c w o = go (eqb charged (w .tables .lower)) refl
     where
-      here : getD (w .uppers) (w .level) 0 ≡ cost (setOf (w .best)) (levelAt L (w .level))
-      here = ap (λ (x : List ℕ). getD x (w .level) 0) (o .uppers) ∙ cost-at L (w .best) (w .level) (o .level)
+      charged : ℕ
+      charged = charge (setOf (w .best)) (penaltiesAt L (w .level))
 
-      next : Opened c (openFrom L w (w .level + 1)) (openNext c (levelAt L (w .level) ∷ pastAt L (w .level)) (w .tables .lower ∷ settledAt (w .lowers) (w .level)) (laterAt L (w .level + 1)) (setOf (w .best)))
+      -- the bounds are equal just if what is charged is the natural bound
+      test : sameℤ (getD (w .uppers) (w .level) (pos 0)) (getD (w .lowers) (w .level) (pos 0)) ≡ eqb charged (w .tables .lower)
+      test =
+          ap₂ sameℤ (ap (λ (x : List ℤ). getD x (w .level) (pos 0)) (o .uppers) ∙ cost-at L (w .best) (w .level) (o .level) ∙ cost-above S f (setOf (w .best)) (w .level)) (o .lower-is)
+          ∙ above-same (startAt L (w .level)) charged (w .tables .lower)
+
+      raised : rise (startAt L (w .level)) (getD (w .lowers) (w .level) (pos 0)) ≡ w .tables .lower
+      raised = ap (rise (startAt L (w .level))) (o .lower-is) ∙ rise-above (startAt L (w .level)) (w .tables .lower)
+
+      next : Opened c (openFrom L w (w .level + 1)) (openNext c (penaltiesAt L (w .level) ∷ pastAt L (w .level)) (w .tables .lower ∷ settledAt L (w .lowers) (w .level)) (laterAt L (w .level + 1)) (setOf (w .best)))
       next =
-          subst (λ (x : ℕ). Opened c (openFrom L w (w .level + 1)) (openNext c (levelAt L (w .level) ∷ pastAt L (w .level)) (x ∷ settledAt (w .lowers) (w .level)) (laterAt L (w .level + 1)) (setOf (w .best)))) (o .lower-is)
-          (subst (λ (x : ℕ). Opened c (openFrom L w (w .level + 1)) (openNext c (pastAt L x) (settledAt (w .lowers) x) (laterAt L (w .level + 1)) (setOf (w .best)))) (add-one (w .level))
-          (open-from c w (w .level + 1) (omega (arith, o .level)) (o .lowers-len) (λ i h. o .zeros i (omega arith)) (o .uppers) (o .sound) (o .kinds)))
+          subst (λ (x : ℕ). Opened c (openFrom L w (w .level + 1)) (openNext c (penaltiesAt L (w .level) ∷ pastAt L (w .level)) (x ∷ settledAt L (w .lowers) (w .level)) (laterAt L (w .level + 1)) (setOf (w .best)))) raised
+          (subst (λ (x : ℕ). Opened c (openFrom L w (w .level + 1)) (openNext c (pastAt L x) (settledAt L (w .lowers) x) (laterAt L (w .level + 1)) (setOf (w .best)))) (add-one (w .level))
+          (open-from c w (w .level + 1) (omega (arith, o .level)) (o .lowers-len) (o .figured) (λ i h. o .starts i (omega arith)) (o .uppers) (o .sound) (o .kinds)))
 
-      go : (b : Bool) → eqb (cost (setOf (w .best)) (levelAt L (w .level))) (w .tables .lower) ≡ b
-          → Opened c (pick (eqb (getD (w .uppers) (w .level) 0) (w .tables .lower)) (openFrom L w (w .level + 1)) (placed Level w))
-          (pick b (openNext c (levelAt L (w .level) ∷ pastAt L (w .level)) (w .tables .lower ∷ settledAt (w .lowers) (w .level)) (laterAt L (w .level + 1)) (setOf (w .best))) (working c (workOf L w) [] []))
-      go true e = rw (ap (λ (x : ℕ). eqb x (w .tables .lower)) here ∙ e) next
-      go false e = rw (ap (λ (x : ℕ). eqb x (w .tables .lower)) here ∙ e) (record { means = refl; order = o })
+      go : (b : Bool) → eqb charged (w .tables .lower) ≡ b
+          → Opened c (pick (sameℤ (getD (w .uppers) (w .level) (pos 0)) (getD (w .lowers) (w .level) (pos 0))) (openFrom L w (w .level + 1)) (placed Level w))
+          (pick b (openNext c (penaltiesAt L (w .level) ∷ pastAt L (w .level)) (w .tables .lower ∷ settledAt L (w .lowers) (w .level)) (laterAt L (w .level + 1)) (setOf (w .best))) (working c (workOf L w) [] []))
+      go true e = rw (test ∙ e) next
+      go false e = rw (test ∙ e) (record { means = refl; order = o })
 
   -- ---- a query ends with a model
 
   module _ (w : Work) (o : OnLevel S w) (v : List ℕ) where
-    cheaper-same : cheaper ltb (take (many L) (costsOf L v)) (take (many L) (w .uppers)) ≡ cheaper ltb (costsOn (setOf v) (levelsIn L)) (costsOn (setOf (w .best)) (levelsIn L))
-    cheaper-same = ap₂ (cheaper ltb) (costs-are L v) (ap (take (many L)) (o .uppers) ∙ costs-are L (w .best))
+    cheaper-same : cheaper ltZ (take (many L) (costsOf L v)) (take (many L) (w .uppers)) ≡ cheaper ltb (chargesOn (setOf v) (penaltiesIn L)) (chargesOn (setOf (w .best)) (penaltiesIn L))
+    cheaper-same =
+        ap₂ (cheaper ltZ) (costs-are L v ∙ costs-above S f (setOf v)) (ap (take (many L)) (o .uppers) ∙ costs-are L (w .best) ∙ costs-above S f (setOf (w .best)))
+        ∙ cheaper-aboves (startsIn L) (chargesOn (setOf v) (penaltiesIn L)) (chargesOn (setOf (w .best)) (penaltiesIn L)) (charges-many L (setOf v) ∙ sym (starts-many L)) (charges-many L (setOf (w .best)) ∙ sym (starts-many L))
 
     with-best-order : OnLevel S (fallen (withBest L w v))
-    with-best-order = record { level = o .level; sound = o .sound; kinds = o .kinds; lowers-len = o .lowers-len; lower-is = o .lower-is; zeros = o .zeros; uppers = refl }
+    with-best-order = record { level = o .level; sound = o .sound; kinds = o .kinds; lowers-len = o .lowers-len; figured = o .figured; lower-is = o .lower-is; starts = o .starts; uppers = refl }
 
     fallen-order : OnLevel S (fallen w)
-    fallen-order = record { level = o .level; sound = o .sound; kinds = o .kinds; lowers-len = o .lowers-len; lower-is = o .lower-is; zeros = o .zeros; uppers = o .uppers }
+    fallen-order = record { level = o .level; sound = o .sound; kinds = o .kinds; lowers-len = o .lowers-len; figured = o .figured; lower-is = o .lower-is; starts = o .starts; uppers = o .uppers }
 
     better-order : OnLevel S (fallen (betterOf L w v))
     unfolding betterOf
-    better-order = elim (cheaper ltb (take (many L) (costsOf L v)) (take (many L) (w .uppers))) as (λ b. OnLevel S (fallen (pick b (withBest L w v) w))) [ true ↦ with-best-order | false ↦ fallen-order ]
+    better-order = elim (cheaper ltZ (take (many L) (costsOf L v)) (take (many L) (w .uppers))) as (λ b. OnLevel S (fallen (pick b (withBest L w v) w))) [ true ↦ with-best-order | false ↦ fallen-order ]
 
     abbrev result : Set → abstract.Work
     result M = record {
       past = pastAt L (w .level);
-      settled = settledAt (w .lowers) (w .level);
-      level = levelAt L (w .level);
+      settled = settledAt L (w .lowers) (w .level);
+      level = penaltiesAt L (w .level);
       later = laterAt L (w .level + 1);
       tables = levelOf (w .tables);
       stratum = under (w .stratum) (levelOf (w .tables) .rests);
       best = M;
     }
 
-    better-means : workOf L (fallen (betterOf L w v)) ≡ withModel (levelsIn L) (workOf L w) (setOf v)
+    better-means : workOf L (fallen (betterOf L w v)) ≡ withModel (penaltiesIn L) (workOf L w) (setOf v)
     unfolding betterOf
-    better-means = go (cheaper ltb (take (many L) (costsOf L v)) (take (many L) (w .uppers))) (cheaper ltb (costsOn (setOf v) (levelsIn L)) (costsOn (setOf (w .best)) (levelsIn L))) cheaper-same
+    better-means = go (cheaper ltZ (take (many L) (costsOf L v)) (take (many L) (w .uppers))) (cheaper ltb (chargesOn (setOf v) (penaltiesIn L)) (chargesOn (setOf (w .best)) (penaltiesIn L))) cheaper-same
       where
         go : (a b : Bool) → a ≡ b → workOf L (fallen (pick a (withBest L w v) w)) ≡ result (pick b (setOf v) (setOf (w .best)))
         go true true e = refl
@@ -243,14 +239,15 @@ module _ (S : Source) (f : FormedSource S) where
         go true false e = let z : _≡_ {A = ℕ} 0 1 = cc in absurd (omega arith)
         go false true e = let z : _≡_ {A = ℕ} 0 1 = cc in absurd (omega arith)
 
-    pub model-means : (c : ℕ) → Opened c (settleOf L (fallen (betterOf L w v))) (settle c (withModel (levelsIn L) (workOf L w) (setOf v)))
+    pub model-means : (c : ℕ) → Opened c (settleOf L (fallen (betterOf L w v))) (settle c (withModel (penaltiesIn L) (workOf L w) (setOf v)))
     model-means c = subst (λ (x : abstract.Work). Opened c (settleOf L (fallen (betterOf L w v))) (settle c x)) better-means (settle-means c (fallen (betterOf L w v)) better-order)
 
   -- ---- a query ends without a model
 
-  settled-set : (lowers : List ℕ) (i x j : ℕ) → j ≤ i → settledAt (set lowers i x) j ≡ settledAt lowers j
+  settled-set : (lowers : List ℤ) (i : ℕ) (x : ℤ) (j : ℕ) → j ≤ i → settledAt L (set lowers i x) j ≡ settledAt L lowers j
   settled-set lowers i x zero h = refl
-  settled-set lowers i x (suc j) h = ap₂ (λ (y : ℕ) (ys : List ℕ). y ∷ ys) (getD-set-other lowers i j x 0 (λ e. less e)) (settled-set lowers i x j (omega arith))
+  settled-set lowers i x (suc j) h =
+      ap₂ (λ (y : ℕ) (ys : List ℕ). y ∷ ys) (ap (rise (startAt L j)) (getD-set-other lowers i j x (pos 0) (λ e. less e))) (settled-set lowers i x j (omega arith))
     where
       less : j ≡ i → ⊥
       less e = omega arith
@@ -265,6 +262,26 @@ module _ (S : Source) (f : FormedSource S) where
     abbrev recordedWork : Work
     recordedWork = withTables w (recordedTables t s ms)
 
+    -- the bound, raised by the stratum
+    abbrev bound : ℤ
+    bound = above (getD (w .lowers) (w .level) (pos 0)) s
+
+    bound-is : bound ≡ above (startAt L (w .level)) (t .lower + s)
+    bound-is = ap (λ (z : ℤ). above z s) (o .lower-is) ∙ above-more (startAt L (w .level)) (t .lower) s
+
+    here : getD (set (w .lowers) (w .level) bound) (w .level) (pos 0) ≡ bound
+    here = getD-set-same (w .lowers) (w .level) bound (pos 0) (omega (arith, o .lowers-len, o .level, f .levels .levels-few))
+
+    elsewhere : (j : ℕ) → (j ≡ w .level → ⊥) → getD (set (w .lowers) (w .level) bound) j (pos 0) ≡ getD (w .lowers) j (pos 0)
+    elsewhere j = getD-set-other (w .lowers) (w .level) j bound (pos 0)
+
+    figured-still : Figured L (set (w .lowers) (w .level) bound)
+    figured-still j h = by (ℕ-discrete j (w .level))
+      where
+        by : Dec (j ≡ w .level) → IsAbove (startAt L j) (getD (set (w .lowers) (w .level) bound) j (pos 0))
+        by (yes e) = rw e (is-above (startAt L (w .level)) (t .lower + s) (here ∙ bound-is))
+        by (no n) = subst (IsAbove (startAt L j)) (sym (elsewhere j n)) (o .figured j h)
+
     roomy : coreFits (t .count) (heldIn t) (length ms) ≡ true → Room t (length ms)
     roomy q = try-room t s ms (core-counted t (o .sound) s ms some few) refl refl q
 
@@ -278,9 +295,10 @@ module _ (S : Source) (f : FormedSource S) where
       kinds =
           subst (λ (x : lev.Level). All (KindIn (S .n)) (x .kinds)) (sym (recorded-is q))
           (all-app (KindIn (S .n)) (levelOf t .kinds) (derivedFrom (suc (length (levelOf t .cores))) 1 (fewer ms)) (o .kinds) (derived-kinds (S .n) (suc (length (levelOf t .cores))) 1 (fewer ms)));
-      lowers-len = length-set (w .lowers) (w .level) (t .lower + s) ∙ o .lowers-len;
-      lower-is = getD-set-same (w .lowers) (w .level) (t .lower + s) 0 (omega (arith, o .lowers-len, o .level, f .levels .levels-few));
-      zeros = λ j h. getD-set-other (w .lowers) (w .level) j (t .lower + s) 0 (λ e. more j h e) ∙ o .zeros j h;
+      lowers-len = length-set (w .lowers) (w .level) bound ∙ o .lowers-len;
+      figured = figured-still;
+      lower-is = here ∙ bound-is;
+      starts = λ j h k. elsewhere j (λ e. more j h e) ∙ o .starts j h k;
       uppers = o .uppers;
     }
       where
@@ -289,8 +307,8 @@ module _ (S : Source) (f : FormedSource S) where
 
     recorded-work : coreFits (t .count) (heldIn t) (length ms) ≡ true → workOf L recordedWork ≡ withCore (workOf L w) ms
     recorded-work q =
-        ap₂ (λ (x : lev.Level) (y : List ℕ). record { past = pastAt L (w .level); settled = y; level = levelAt L (w .level); later = laterAt L (w .level + 1); tables = x; stratum = s; best = setOf (w .best) })
-        (recorded-is q) (settled-set (w .lowers) (w .level) (t .lower + s) (w .level) (omega arith))
+        ap₂ (λ (x : lev.Level) (y : List ℕ). record { past = pastAt L (w .level); settled = y; level = penaltiesAt L (w .level); later = laterAt L (w .level + 1); tables = x; stratum = s; best = setOf (w .best) })
+        (recorded-is q) (settled-set (w .lowers) (w .level) bound (w .level) (omega arith))
 
     pub core-means : (c : ℕ) → Opened c (triedWork L w (triedTables t s ms)) (noModel c (workOf L w) ms)
     core-means c = go (coreFits (t .count) (heldIn t) (length ms)) (room (levelOf t) ms) refl (fits-room t (o .sound .formed) ms)

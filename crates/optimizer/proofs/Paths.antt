@@ -10,9 +10,9 @@ use native.Mathlib.Omega.{arith}
 use lib.Dec.{eqb}
 use lib.IntN.{ℤ}
 use Rattle.asp.specs.Sets.{Set, pick}
-use Rattle.asp.specs.Program.{Entry, All}
+use Rattle.asp.specs.Program.{All}
 use Rattle.asp.specs.Stable.{keep}
-use Rattle.asp.specs.Cost.{cost}
+use Rattle.asp.specs.Penalty.{Penalty, charge}
 use Rattle.search.specs.Trail.{trailSet, flip}
 use Rattle.search.specs.Trail as list
 use Rattle.search.specs.Query.{Wanted, Conflict, IsOpen}
@@ -38,9 +38,9 @@ use Rattle.optimizer.specs.declared.state.Work.{Work}
 use Rattle.optimizer.specs.declared.state.Search.{Search}
 use Rattle.optimizer.specs.declared.state.Turn.{Turn}
 use Rattle.optimizer.specs.declared.state.Turn.the-variants.{Going, Without, Model}
-use Rattle.optimizer.specs.Source.{Levels, Source, levelsIn, rulesIn, FormedSource}
+use Rattle.optimizer.specs.Source.{Levels, Source, penaltiesIn, rulesIn, FormedSource}
 use Rattle.optimizer.specs.Turn.{QueryTables, queryOf, blamedOf, Turned, turned, backed, turnOf, isGoing}
-use Rattle.optimizer.specs.State.{search as searchOf, freshWork, freshSearch, isRunning}
+use Rattle.optimizer.specs.State.{search as searchOf, firstWork, freshFor, isRunning}
 use Rattle.optimizer.specs.Finish.{finishOf}
 use Rattle.optimizer.specs.Advance.{endedQuery, finishTurn, workQuery, bumped, advanceOf, advancesOf, madeBy}
 use Rattle.optimizer.specs.Run.{Reached}
@@ -158,10 +158,10 @@ module _ (S : Source) (f : FormedSource S) (c k : ℕ) (t : Places) (b : Blame) 
   P = levelQuery (given S) (workOf L w)
 
   to : (M : Set) → search.Sought P M → Seeks S Level w M
-  to M h = (h .0 .0, at-costs L (w .lowers) M (w .level) (h .0 .1), h .1)
+  to M h = (h .0 .0, at-costs S f (w .lowers) M (v .order .figured) (w .level) (omega (arith, v .order .level)) (h .0 .1), h .1)
 
   from : (M : Set) → Seeks S Level w M → search.Sought P M
-  from M h = ((h .0, costs-at L (w .lowers) M (w .level) (h .1)), h .2)
+  from M h = ((h .0, costs-at S f (w .lowers) M (w .level) (h .1)), h .2)
 
   abbrev asks : List ℤ → words.Query
   asks ls = record { n = S .n; rules = rulesIn S; wished = ls; Sought = Seeks S Level w }
@@ -190,7 +190,7 @@ module _ (S : Source) (f : FormedSource S) (c k : ℕ) (t : Places) (b : Blame) 
   unfolding advanceOf
   level-after = refl
 
-  level-meant : (n : ℕ) → meant L (suc n) (advanceOf S s) ≡ afterWork (levelsIn L) (suc n) (workOf L w) (seen x)
+  level-meant : (n : ℕ) → meant L (suc n) (advanceOf S s) ≡ afterWork (penaltiesIn L) (suc n) (workOf L w) (seen x)
   level-meant n = ap (meant L (suc n)) level-after ∙ means-level S f w (v .order) (suc n) (bumped k) (v .inv .work) x level-good
 
   level-without : x .turn ≡ Without → RecordsCore S s
@@ -203,16 +203,16 @@ module _ (S : Source) (f : FormedSource S) (c k : ℕ) (t : Places) (b : Blame) 
           some = i .some;
           assumed = i .heavy;
           distinct = i .distinct;
-          refuted = λ M m h a. n .none-meets M ((m, costs-at L (w .lowers) M (w .level) h), a);
+          refuted = λ M m h a. n .none-meets M ((m, costs-at S f (w .lowers) M (w .level) h), a);
         };
-        ends = ends S s x level-after (ap isGoing e) (λ n. level-meant n ∙ ap (λ (y : Turn). afterWork (levelsIn L) (suc n) (workOf L w) (seenBy y (x .trail) (x .blame))) e);
+        ends = ends S s x level-after (ap isGoing e) (λ n. level-meant n ∙ ap (λ (y : Turn). afterWork (penaltiesIn L) (suc n) (workOf L w) (seenBy y (x .trail) (x .blame))) e);
       }
 
   level-found : x ≡ turned Model (t) b → EndsWith S Level s (trailSet u)
   level-found e =
       ends S s x level-after (ap (λ (y : Turned). isGoing (y .turn)) e)
-      (λ n. level-meant n ∙ ap (λ (y : Turned). afterWork (levelsIn L) (suc n) (workOf L w) (seen y)) e
-      ∙ ap (λ (M : Set). settle (suc n) (withModel (levelsIn L) (workOf L w) M)) (set-is (S .n) (t) (v .trail)))
+      (λ n. level-meant n ∙ ap (λ (y : Turned). afterWork (penaltiesIn L) (suc n) (workOf L w) (seen y)) e
+      ∙ ap (λ (M : Set). settle (suc n) (withModel (penaltiesIn L) (workOf L w) M)) (set-is (S .n) (t) (v .trail)))
 
   level-rules : PathRules S s
   level-rules =
@@ -223,18 +223,18 @@ module _ (S : Source) (f : FormedSource S) (c k : ℕ) (t : Places) (b : Blame) 
 
   level-machine : IsMachine S s
   level-machine = record {
-    exact = subst (Exact (questionBy S Level w) u) (level-test S w (v .order) (v .blame) (t) (v .trail)) level-exact;
+    exact = subst (Exact (questionBy S Level w) u) (level-test S f w (v .order) (v .blame) (t) (v .trail)) level-exact;
     advances = λ n.
         level-meant n
-        ∙ ap (afterWork (levelsIn L) (suc n) (workOf L w)) (turn-seen (ready S f w (v .order)) (v .blame) (t) (v .trail))
-        ∙ ap (λ (y : Verdict). afterWork (levelsIn L) (suc n) (workOf L w) (machine.advanceBy y u (blamedOf b))) (level-test S w (v .order) (v .blame) (t) (v .trail));
+        ∙ ap (afterWork (penaltiesIn L) (suc n) (workOf L w)) (turn-seen (ready S f w (v .order)) (v .blame) (t) (v .trail))
+        ∙ ap (λ (y : Verdict). afterWork (penaltiesIn L) (suc n) (workOf L w) (machine.advanceBy y u (blamedOf b))) (level-test S f w (v .order) (v .blame) (t) (v .trail));
   }
 
 -- ---- the first query
 
-module _ (S : Source) (f : FormedSource S) (c k : ℕ) (t : Places) (b : Blame) (v : Valid S c (searchOf First k t b freshWork)) where
+module _ (S : Source) (f : FormedSource S) (c k : ℕ) (t : Places) (b : Blame) (v : Valid S c (searchOf First k t b (firstWork (S .levels)))) where
   abbrev s₀ : Search
-  s₀ = searchOf First k t b freshWork
+  s₀ = searchOf First k t b (firstWork (S .levels))
 
   abbrev L₀ : Levels
   L₀ = S .levels
@@ -243,44 +243,44 @@ module _ (S : Source) (f : FormedSource S) (c k : ℕ) (t : Places) (b : Blame) 
   u₀ = trailOf (t)
 
   abbrev q₀ : QueryTables
-  q₀ = workQuery freshWork
+  q₀ = workQuery (firstWork (S .levels))
 
   abbrev x₀ : Turned
   x₀ = turnOf S q₀ (t) b
 
-  first-exact : Exact (questionBy S First freshWork) u₀ (verdict S q₀ (t) b)
+  first-exact : Exact (questionBy S First (firstWork (S .levels))) u₀ (verdict S q₀ (t) b)
   unfolding queryOf assumedFrom keep
   first-exact =
       verdict-exact (first-ready S f) (first-answers S f) (facts.Model S) (λ M h. h .0) (λ M h. (h, λ m a. tt)) (t) (v .trail) (v .blame)
       (none-assumed S f (v .blame) (t) (v .trail))
 
-  first-one : Wanted (questionBy S First freshWork) u₀ → ¬ Conflict (questionBy S First freshWork) u₀
+  first-one : Wanted (questionBy S First (firstWork (S .levels))) u₀ → ¬ Conflict (questionBy S First (firstWork (S .levels))) u₀
   unfolding queryOf assumedFrom keep
   first-one = not-both (first-ready S f) (first-answers S f) (facts.Model S) (λ M h. h .0) (λ M h. (h, λ m a. tt)) (t) (v .trail)
 
   first-says : search.Says (firstQuery (given S)) u₀ (verdict S q₀ (t) b)
   first-says = verdict-says (first-ready S f) (first-answers S f) (v .blame) (none-assumed S f (v .blame) (t) (v .trail)) (t) (v .trail)
 
-  first-after : advanceOf S s₀ ≡ finishTurn S First (bumped k) freshWork x₀
+  first-after : advanceOf S s₀ ≡ finishTurn S First (bumped k) (firstWork (S .levels)) x₀
   unfolding advanceOf
   first-after = refl
 
-  first-meant : (n : ℕ) → meant L₀ (suc n) (advanceOf S s₀) ≡ afterFirst (levelsIn L₀) (suc n) (seen x₀)
+  first-meant : (n : ℕ) → meant L₀ (suc n) (advanceOf S s₀) ≡ afterFirst (penaltiesIn L₀) (suc n) (seen x₀)
   first-meant n = ap (meant L₀ (suc n)) first-after ∙ means-first S f (suc n) (bumped k) x₀
 
   first-without : x₀ .turn ≡ Without → FindsNone S s₀
   first-without e = record {
     none-is =
-        subst (Inv (given S)) (first-meant c ∙ ap (λ (y : Turn). afterFirst (levelsIn L₀) (suc c) (seenBy y (x₀ .trail) (x₀ .blame))) e)
+        subst (Inv (given S)) (first-meant c ∙ ap (λ (y : Turn). afterFirst (penaltiesIn L₀) (suc c) (seenBy y (x₀ .trail) (x₀ .blame))) e)
         (valid-advance S f c s₀ v refl .inv);
-    ends = ends S s₀ x₀ first-after (ap isGoing e) (λ n. first-meant n ∙ ap (λ (y : Turn). afterFirst (levelsIn L₀) (suc n) (seenBy y (x₀ .trail) (x₀ .blame))) e);
+    ends = ends S s₀ x₀ first-after (ap isGoing e) (λ n. first-meant n ∙ ap (λ (y : Turn). afterFirst (penaltiesIn L₀) (suc n) (seenBy y (x₀ .trail) (x₀ .blame))) e);
   }
 
   first-found : x₀ ≡ turned Model (t) b → EndsWith S First s₀ (trailSet u₀)
   first-found e =
       ends S s₀ x₀ first-after (ap (λ (y : Turned). isGoing (y .turn)) e)
-      (λ n. first-meant n ∙ ap (λ (y : Turned). afterFirst (levelsIn L₀) (suc n) (seen y)) e
-      ∙ ap (λ (M : Set). openNext (suc n) [] [] (levelsIn L₀) M) (set-is (S .n) (t) (v .trail)))
+      (λ n. first-meant n ∙ ap (λ (y : Turned). afterFirst (penaltiesIn L₀) (suc n) (seen y)) e
+      ∙ ap (λ (M : Set). openNext (suc n) [] [] (penaltiesIn L₀) M) (set-is (S .n) (t) (v .trail)))
 
   first-rules : PathRules S s₀
   first-rules =
@@ -289,11 +289,11 @@ module _ (S : Source) (f : FormedSource S) (c k : ℕ) (t : Places) (b : Blame) 
 
   first-machine : IsMachine S s₀
   first-machine = record {
-    exact = subst (Exact (questionBy S First freshWork) u₀) (start-test S b (first-blamed S f (v .blame)) (t) (v .trail)) first-exact;
+    exact = subst (Exact (questionBy S First (firstWork (S .levels))) u₀) (start-test S b (first-blamed S f (v .blame)) (t) (v .trail)) first-exact;
     advances = λ n.
         first-meant n
-        ∙ ap (afterFirst (levelsIn L₀) (suc n)) (turn-seen (first-ready S f) (v .blame) (t) (v .trail))
-        ∙ ap₂ (λ (y : Verdict) (ms : List ℕ). afterFirst (levelsIn L₀) (suc n) (machine.advanceBy y u₀ ms)) (start-test S b (first-blamed S f (v .blame)) (t) (v .trail)) (first-blamed S f (v .blame));
+        ∙ ap (afterFirst (penaltiesIn L₀) (suc n)) (turn-seen (first-ready S f) (v .blame) (t) (v .trail))
+        ∙ ap₂ (λ (y : Verdict) (ms : List ℕ). afterFirst (penaltiesIn L₀) (suc n) (machine.advanceBy y u₀ ms)) (start-test S b (first-blamed S f (v .blame)) (t) (v .trail)) (first-blamed S f (v .blame));
   }
 
 -- ---- of a valid state
@@ -316,14 +316,14 @@ machine-at S f Incoherent c k t b w v = record { exact = tt; advances = λ n. re
 machine-at S f Full c k t b w v = record { exact = tt; advances = λ n. refl }
 
 -- "If a core would pass either, it isn't recorded and the status is full": there is one that would
-full-at : (S : Source) (w : Work) → GoodFull (given S) (workOf (S .levels) w) → PassesLimit S w
-full-at S w g = record {
+full-at : (S : Source) → FormedSource S → (w : Work) → GoodFull (given S) (workOf (S .levels) w) → PassesLimit S w
+full-at S f w g = record {
   core = g .core;
   is-core = record {
     some = g .is-core .some;
     assumed = g .is-core .heavy;
     distinct = g .is-core .distinct;
-    refuted = λ M m h a. none-violated (violated M (levelOf (w .tables) .kinds) (levelOf (w .tables) .cores)) (g .core) a (g .is-core .refuted M (m, costs-at (S .levels) (w .lowers) M (w .level) h));
+    refuted = λ M m h a. none-violated (violated M (levelOf (w .tables) .kinds) (levelOf (w .tables) .cores)) (g .core) a (g .is-core .refuted M (m, costs-at S f (w .lowers) M (w .level) h));
   };
   passes = g .passes;
 }
@@ -334,21 +334,21 @@ full-at S w g = record {
 
 -- ---- of a reached state
 
-valid-at : {S : Source} {s : Search} → (r : Reached S s) → Valid S (madeBy S (r .made) freshSearch) s
-valid-at {S} {s} r = subst (Valid S (madeBy S (r .made) freshSearch)) (sym (r .is)) (reached-valid S (r .source) (r .made))
+valid-at : {S : Source} {s : Search} → (r : Reached S s) → Valid S (madeBy S (r .made) (freshFor (S .levels))) s
+valid-at {S} {s} r = subst (Valid S (madeBy S (r .made) (freshFor (S .levels)))) (sym (r .is)) (reached-valid S (r .source) (r .made))
 
 -- THE PATH RULES HOLD OF EVERY ADVANCE
 pub path-rules : {S : Source} {s : Search} → Reached S s → isRunning (s .phase) ≡ true → PathRules S s
-path-rules {S} {s} r e = rules-at S (r .source) (s .phase) (madeBy S (r .made) freshSearch) (s .advances) (s .trail) (s .blame) (s .work) (valid-at r) e
+path-rules {S} {s} r e = rules-at S (r .source) (s .phase) (madeBy S (r .made) (freshFor (S .levels))) (s .advances) (s .trail) (s .blame) (s .work) (valid-at r) e
 
 -- EVERY ADVANCE IS ONE OF THE MACHINE OF `optimum`
 pub is-machine : {S : Source} {s : Search} → Reached S s → IsMachine S s
-is-machine {S} {s} r = machine-at S (r .source) (s .phase) (madeBy S (r .made) freshSearch) (s .advances) (s .trail) (s .blame) (s .work) (valid-at r)
+is-machine {S} {s} r = machine-at S (r .source) (s .phase) (madeBy S (r .made) (freshFor (S .levels))) (s .advances) (s .trail) (s .blame) (s .work) (valid-at r)
 
 -- A FULL STATE HAS A CORE THAT WOULD PASS A LIMIT
 pub full-core : {S : Source} {s : Search} → Reached S s → s .phase ≡ Full → PassesLimit S (s .work)
 full-core {S} {s} r e =
-    full-at S (s .work) (subst (λ (p : Phase). Inv (given S) (meantBy (S .levels) (madeBy S (r .made) freshSearch) p (pathOf s) (blamedOf (s .blame)) (s .work))) e (valid-at r .inv))
+    full-at S (r .source) (s .work) (subst (λ (p : Phase). Inv (given S) (meantBy (S .levels) (madeBy S (r .made) (freshFor (S .levels))) p (pathOf s) (blamedOf (s .blame)) (s .work))) e (valid-at r .inv))
 
 -- "If none, a core is recorded": the core of an advance that ends a level's question without a model
 pub core-recorded : {S : Source} {s : Search} → Reached S s → s .phase ≡ Level → Conflict (questionOf S s) (pathOf s) → flip (pathOf s) ≡ none → RecordsCore S s
@@ -364,15 +364,15 @@ isFull (abstract.optimum c past settled M) = 0
 isFull (abstract.incoherent c) = 0
 isFull (abstract.full c w) = 1
 
-open-full : (c : ℕ) (past : List (List Entry)) (bs : List ℕ) (later : List (List Entry)) (M : Set) → isFull (openNext c past bs later M) ≡ 0
+open-full : (c : ℕ) (past : List (List Penalty)) (bs : List ℕ) (later : List (List Penalty)) (M : Set) → isFull (openNext c past bs later M) ≡ 0
 open-full c past bs [] M = refl
 open-full c past bs (l ∷ later) M =
-    elim (eqb (cost M l) 0) as (λ b. isFull (pick b (openNext c (l ∷ past) (0 ∷ bs) later M) (abstract.working c (abstract.begun past bs l later M) [] [])) ≡ 0)
+    elim (eqb (charge M l) 0) as (λ b. isFull (pick b (openNext c (l ∷ past) (0 ∷ bs) later M) (abstract.working c (abstract.begun past bs l later M) [] [])) ≡ 0)
     [ true ↦ open-full c (l ∷ past) (0 ∷ bs) later M | false ↦ refl ]
 
 settle-full : (c : ℕ) (w : abstract.Work) → isFull (settle c w) ≡ 0
 settle-full c w =
-    elim (eqb (cost (w .best) (w .level)) (w .tables .lower))
+    elim (eqb (charge (w .best) (w .level)) (w .tables .lower))
     as (λ b. isFull (pick b (openNext c (w .level ∷ w .past) (w .tables .lower ∷ w .settled) (w .later) (w .best)) (abstract.working c w [] [])) ≡ 0)
     [ true ↦ open-full c (w .level ∷ w .past) (w .tables .lower ∷ w .settled) (w .later) (w .best) | false ↦ refl ]
 
@@ -384,8 +384,8 @@ module _ (S : Source) (s : Search) (e : advanceOf S s .phase ≡ Full) where
   no-going r h = true≢false (sym r ∙ ap isRunning (sym (h .phase) ∙ e))
 
   no-model : (p : Phase) (M : Set) → EndsWith S p s M → ⊥
-  no-model First M h = omega (arith, full-meant h, open-full 1 [] [] (levelsIn (S .levels)) M)
-  no-model Level M h = omega (arith, full-meant h, settle-full 1 (withModel (levelsIn (S .levels)) (workOf (S .levels) (s .work)) M))
+  no-model First M h = omega (arith, full-meant h, open-full 1 [] [] (penaltiesIn (S .levels)) M)
+  no-model Level M h = omega (arith, full-meant h, settle-full 1 (withModel (penaltiesIn (S .levels)) (workOf (S .levels) (s .work)) M))
   no-model Optimum M h = h
   no-model Incoherent M h = h
   no-model Full M h = h
@@ -417,15 +417,15 @@ advance-full {S} {s} r k e = go (path-rules r k .one)
 
 module _ (S : Source) where
   abbrev stepped : abstract.State → abstract.State
-  stepped = abstract.advance (levelsIn (S .levels)) (testsOf S)
+  stepped = abstract.advance (penaltiesIn (S .levels)) (testsOf S)
 
   abbrev repeated : ℕ → abstract.State → abstract.State
   repeated zero x = x
   repeated (suc k) x = repeated k (stepped x)
 
-  repeated-after : (k j : ℕ) → repeated k (abstract.after (levelsIn (S .levels)) (testsOf S) j) ≡ abstract.after (levelsIn (S .levels)) (testsOf S) (j + k)
-  repeated-after zero j = let e : j ≡ j + 0 = omega arith in ap (abstract.after (levelsIn (S .levels)) (testsOf S)) e
-  repeated-after (suc k) j = let e : suc j + k ≡ j + suc k = omega arith in repeated-after k (suc j) ∙ ap (abstract.after (levelsIn (S .levels)) (testsOf S)) e
+  repeated-after : (k j : ℕ) → repeated k (abstract.after (penaltiesIn (S .levels)) (testsOf S) j) ≡ abstract.after (penaltiesIn (S .levels)) (testsOf S) (j + k)
+  repeated-after zero j = let e : j ≡ j + 0 = omega arith in ap (abstract.after (penaltiesIn (S .levels)) (testsOf S)) e
+  repeated-after (suc k) j = let e : suc j + k ≡ j + suc k = omega arith in repeated-after k (suc j) ∙ ap (abstract.after (penaltiesIn (S .levels)) (testsOf S)) e
 
   -- the count of the advances made
   count-by : (p : Phase) (k c : ℕ) (s : Search) → s .phase ≡ p → c + pick (isRunning p) (suc (madeBy S k (advanceOf S s))) 0 ≡ countedBy p c + madeBy S k (advanceOf S s)
@@ -444,9 +444,9 @@ module _ (S : Source) where
       ∙ ap (repeated k) (is-machine r .advances c)
 
 -- THE STATE AFTER k ADVANCES MEANS THAT OF THE MACHINE OF `optimum` AFTER k ADVANCES
-pub meant-after : (S : Source) → FormedSource S → (k : ℕ) → meant (S .levels) (madeBy S k freshSearch) (advancesOf S k freshSearch) ≡ abstract.after (levelsIn (S .levels)) (testsOf S) k
+pub meant-after : (S : Source) → FormedSource S → (k : ℕ) → meant (S .levels) (madeBy S k (freshFor (S .levels))) (advancesOf S k (freshFor (S .levels))) ≡ abstract.after (penaltiesIn (S .levels)) (testsOf S) k
 meant-after S f k =
-    let e : madeBy S k freshSearch ≡ 0 + madeBy S k freshSearch = omega arith in
+    let e : madeBy S k (freshFor (S .levels)) ≡ 0 + madeBy S k (freshFor (S .levels)) = omega arith in
     let z : 0 + k ≡ k = omega arith in
-    ap (λ (n : ℕ). meant (S .levels) n (advancesOf S k freshSearch)) e ∙ meant-from S k 0 freshSearch (reached-fresh f refl) ∙ repeated-after S k 0
-    ∙ ap (abstract.after (levelsIn (S .levels)) (testsOf S)) z
+    ap (λ (n : ℕ). meant (S .levels) n (advancesOf S k (freshFor (S .levels)))) e ∙ meant-from S k 0 (freshFor (S .levels)) (reached-fresh f refl) ∙ repeated-after S k 0
+    ∙ ap (abstract.after (penaltiesIn (S .levels)) (testsOf S)) z

@@ -25,7 +25,7 @@ use Rattle.optimizer.specs.declared.state.Judgement.{Judgement}
 use Rattle.optimizer.specs.declared.state.Judgement.the-variants.{Wanted, Dead, Violated}
 use Rattle.optimizer.specs.Source.{Source, ruleTables}
 use Rattle.optimizer.specs.Turn.{QueryTables, blamedOf, blameEntry, blamePlace, judgeFull, Turned, turned, backed, judgedTurn, turnBy, assumedBy, turnOf}
-use Rattle.optimizer.specs.State.{search as searchOf, freshSearch, isRunning}
+use Rattle.optimizer.specs.State.{search as searchOf, freshFor, isRunning}
 use Rattle.optimizer.specs.Finish.{Placed, finishOf}
 use Rattle.optimizer.specs.Advance.{endedQuery, afterTurns, finishTurn, workQuery, bumped, advanceOf, advancesOf, madeBy}
 use Rattle.optimizer.specs.Facts.{hasModel}
@@ -121,7 +121,7 @@ patient-after S (suc k) c s v = go (isRunning (s .phase)) refl (λ r. patient-af
         subst (λ (x : Search). Patient S (c + 0) x) (sym (ap (advancesOf S k) (rest-advance S s r) ∙ rest-advances S k s r)) (subst (λ (n : ℕ). Patient S n s) e v)
 
 -- A MODEL TAKES MORE THAN n ADVANCES
-pub reached-patient : (S : Source) (k : ℕ) → Patient S (madeBy S k freshSearch) (advancesOf S k freshSearch)
+pub reached-patient : (S : Source) (k : ℕ) → Patient S (madeBy S k (freshFor (S .levels))) (advancesOf S k (freshFor (S .levels)))
 reached-patient S k =
-    let e : 0 + madeBy S k freshSearch ≡ madeBy S k freshSearch = omega arith in
-    subst (λ (n : ℕ). Patient S n (advancesOf S k freshSearch)) e (patient-after S k 0 freshSearch (record { trail = λ e. zero-le; model = λ e. let z : _≡_ {A = ℕ} 0 1 = cc in absurd (omega arith) }))
+    let e : 0 + madeBy S k (freshFor (S .levels)) ≡ madeBy S k (freshFor (S .levels)) = omega arith in
+    subst (λ (n : ℕ). Patient S n (advancesOf S k (freshFor (S .levels)))) e (patient-after S k 0 (freshFor (S .levels)) (record { trail = λ e. zero-le; model = λ e. let z : _≡_ {A = ℕ} 0 1 = cc in absurd (omega arith) }))

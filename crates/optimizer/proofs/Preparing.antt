@@ -11,6 +11,7 @@ use lib.ListN.{length, getD, List·getD-eq-default, replicate}
 use borrow.Author.Tests.{ltb-true, ltb-false}
 use Rattle.asp.specs.Sets.{Set, In, setOf, ind}
 use Rattle.asp.specs.Program.{Head, constraint, plain, choice, Rule, All, HeadIn, RuleIn}
+use Rattle.asp.specs.Penalty.{penalties}
 use Rattle.asp.specs.Tables.{span}
 use mir.Facts.{and-yes, or-yes}
 use Rattle.asp.proofs.Stability.{member-in}
@@ -48,7 +49,7 @@ freely-in n (r ∷ rs) i a t = go (or-yes (freelyChosenBy r a) (freelyChosen rs 
 module _ (S : Source) (f : FormedSource S) where
   first-in : (a : ℕ) → T (firstIn S a) → a ≤ 1024
   first-in a t =
-      let i = freely-in (S .n) (rulesIn S) (f .rules .atoms) a (and-yes (freelyChosen (rulesIn S) a) (not (paidFor (entriesIn (S .levels)) a)) t .0) in
+      let i = freely-in (S .n) (rulesIn S) (f .rules .atoms) a (and-yes (freelyChosen (rulesIn S) a) (not (paidFor (penalties (entriesIn (S .levels))) a)) t .0) in
       omega (arith, i .1, f .rules .few)
 
   -- ---- so a table of them has 1,025 places

@@ -4,6 +4,7 @@ use mathlib.Core.Bool.{Bool, true, false}
 use mathlib.Core.List.{List}
 use Prim.Native.Nat.{ℕ, zero, suc, _+_, _-_, _≤_, _<_}
 use native.Mathlib.Omega.{arith}
+use lib.IntN.{ℤ, pos}
 use lib.ListN.{length, replicate}
 use borrow.Author.Tests.{lt-ltb, le-ltb}
 use Rattle.asp.specs.Sets.{pick}
@@ -133,8 +134,8 @@ module _ {S : Source} {budget : ℕ} {start s : Search} {made : ℕ} (i : Runnin
       let n : m ≡ budget - made = ap (λ (z : Turns). z .made) e ∙ going-made S (workQuery (s .work)) (budget - made) (s .trail) (s .blame) (sym (ap (λ (z : Turns). isGoing (z .turned .turn)) e) ∙ y) in
       running-end (step-next (going-is ready e y q)) (omega (arith, n))
 
-pub fresh-is : {t : Places} → t ≡ freshPlaces → {b : Blame} → b ≡ freshBlame → {u : LevelTables} → u ≡ emptyTables
-    → search First 0 t b (work 0 u 0 (replicate 8 0) (replicate 8 0) (replicate 1025 0)) ≡ freshSearch
-fresh-is e f {u} g =
-    ap₂ (λ (t : Places) (b : Blame). search First 0 t b (work 0 u 0 (replicate 8 0) (replicate 8 0) (replicate 1025 0))) e f
-    ∙ ap (λ (u : LevelTables). search First 0 freshPlaces freshBlame (work 0 u 0 (replicate 8 0) (replicate 8 0) (replicate 1025 0))) g
+pub fresh-is : (lowers : List ℤ) {t : Places} → t ≡ freshPlaces → {b : Blame} → b ≡ freshBlame → {u : LevelTables} → u ≡ emptyTables
+    → search First 0 t b (work 0 u 0 lowers (replicate 8 (pos 0)) (replicate 1025 0)) ≡ freshSearch lowers
+fresh-is lowers e f {u} g =
+    ap₂ (λ (t : Places) (b : Blame). search First 0 t b (work 0 u 0 lowers (replicate 8 (pos 0)) (replicate 1025 0))) e f
+    ∙ ap (λ (u : LevelTables). search First 0 freshPlaces freshBlame (work 0 u 0 lowers (replicate 8 (pos 0)) (replicate 1025 0))) g

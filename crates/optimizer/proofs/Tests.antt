@@ -3,7 +3,7 @@ use mathlib.Core.Path.{_≡_, refl, sym, ap, ap₂, _∙_, fun-ext}
 use mathlib.Core.Bool.{Bool, true, false, _&&_}
 use mathlib.Core.List.{List, [], _∷_, _++_, map}
 use mathlib.Core.Option.{none}
-use Prim.Native.Nat.{ℕ, zero, suc, _+_, _<_}
+use Prim.Native.Nat.{ℕ, zero, suc, _+_, _<_, _≤_}
 use native.Mathlib.Nat.{zero-add}
 use native.Mathlib.Omega.{arith}
 use lib.Dec.{eqb, leb}
@@ -14,7 +14,10 @@ use borrow.Author.Tests.{eqb-true}
 use Rattle.asp.specs.Sets.{Set, pick}
 use Rattle.asp.specs.Program.{All}
 use Rattle.asp.specs.Stable.{isStable, member, keep}
+use Rattle.asp.specs.Literal.{sameℤ}
 use Rattle.asp.specs.Cost.{cost}
+use Rattle.asp.specs.Penalty.{charge, rise}
+use Rattle.asp.proofs.Penalties.{above-same}
 use Rattle.asp.proofs.Spans.{length-span}
 use Rattle.search.specs.Trail.{trailSet}
 use Rattle.search.specs.Machine.{Verdict, conflict, wanted}
@@ -47,13 +50,14 @@ use Rattle.cores.proofs.Unpacked.{judging-level}
 use Rattle.optimizer.specs.declared.state.Blame.{Blame}
 use Rattle.optimizer.specs.declared.state.Work.{Work}
 use Rattle.optimizer.specs.declared.state.Judgement.the-variants.{Dead}
-use Rattle.optimizer.specs.Source.{Levels, Source, levelAt, rulesIn, ruleTables, firstIn}
+use Rattle.optimizer.specs.Source.{Levels, Source, many, levelAt, startAt, penaltiesAt, rulesIn, ruleTables, firstIn, FormedSource}
 use Rattle.optimizer.specs.Turn.{QueryTables, queryOf, assumedIn, entryPlaces, wishedIn, settledFrom, inClass, softOrWanted, judgeFull, blamedOf, assumedBy}
-use Rattle.optimizer.specs.State.{freshWork}
+use Rattle.optimizer.specs.State.{firstWork}
 use Rattle.optimizer.specs.Advance.{workQuery}
 use Rattle.optimizer.specs.Ready.{GoodBlame}
 use Rattle.optimizer.specs.Meaning.{pastAt, settledAt, workOf, valuesOf, entriesBy, wishBy, wishesBy, flagsBy, costsBy, metOr, setVerdict, testWork, testStart}
 use Rattle.optimizer.proofs.Classes.{KindIn, entries-are, kind-of, wished-long}
+use Rattle.optimizer.proofs.Figures.{Figured, cost-above}
 use Rattle.optimizer.proofs.Meanings.{OnLevel}
 use Rattle.optimizer.proofs.Verdicts.{nameOf, verdictBy, verdict}
 
@@ -137,21 +141,25 @@ and-swap true b c = refl
 and-swap false true c = refl
 and-swap false false c = refl
 
-settled-last : (f : ℕ → ℕ) (lowers : List ℕ) (i k : ℕ) → settledFrom f lowers i (suc k) ≡ (eqb (f (i + k)) (getD lowers (i + k) 0) && settledFrom f lowers i k)
+settled-last : (f : ℕ → ℤ) (lowers : List ℤ) (i k : ℕ) → settledFrom f lowers i (suc k) ≡ (sameℤ (f (i + k)) (getD lowers (i + k) (pos 0)) && settledFrom f lowers i k)
 unfolding settledFrom
 settled-last f lowers i zero = let e : i + 0 ≡ i = omega arith in rw e
 settled-last f lowers i (suc k) =
     let e : i + 1 + k ≡ i + suc k = omega arith in
-    ap (λ (b : Bool). eqb (f i) (getD lowers i 0) && b) (settled-last f lowers (i + 1) k)
-    ∙ and-swap (eqb (f i) (getD lowers i 0)) (eqb (f (i + 1 + k)) (getD lowers (i + 1 + k) 0)) (settledFrom f lowers (i + 1) k)
-    ∙ ap (λ (j : ℕ). eqb (f j) (getD lowers j 0) && settledFrom f lowers i (suc k)) e
+    ap (λ (b : Bool). sameℤ (f i) (getD lowers i (pos 0)) && b) (settled-last f lowers (i + 1) k)
+    ∙ and-swap (sameℤ (f i) (getD lowers i (pos 0))) (sameℤ (f (i + 1 + k)) (getD lowers (i + 1 + k) (pos 0))) (settledFrom f lowers (i + 1) k)
+    ∙ ap (λ (j : ℕ). sameℤ (f j) (getD lowers j (pos 0)) && settledFrom f lowers i (suc k)) e
 
-costs-same : (L : Levels) (lowers : List ℕ) (M : Set) (j : ℕ) → settledFrom (λ i. cost M (levelAt L i)) lowers 0 j ≡ costsBy M (pastAt L j) (settledAt lowers j)
+-- the settled costs, by what is charged
+costs-same : (S : Source) (f : FormedSource S) (lowers : List ℤ) → Figured (S .levels) lowers → (M : Set) (j : ℕ) → j ≤ many (S .levels)
+    → settledFrom (λ i. cost M (levelAt (S .levels) i)) lowers 0 j ≡ costsBy M (pastAt (S .levels) j) (settledAt (S .levels) lowers j)
 unfolding settledFrom
-costs-same L lowers M zero = refl
-costs-same L lowers M (suc j) =
-    settled-last (λ i. cost M (levelAt L i)) lowers 0 j
-    ∙ ap₂ (λ (i : ℕ) (b : Bool). eqb (cost M (levelAt L i)) (getD lowers i 0) && b) (zero-add j) (costs-same L lowers M j)
+costs-same S f lowers g M zero h = refl
+costs-same S f lowers g M (suc j) h =
+    settled-last (λ i. cost M (levelAt (S .levels) i)) lowers 0 j
+    ∙ ap₂ (λ (i : ℕ) (b : Bool). sameℤ (cost M (levelAt (S .levels) i)) (getD lowers i (pos 0)) && b) (zero-add j) (costs-same S f lowers g M j (omega arith))
+    ∙ ap (λ (b : Bool). b && costsBy M (pastAt (S .levels) j) (settledAt (S .levels) lowers j))
+    (ap₂ sameℤ (cost-above S f M j) (g j (omega arith)) ∙ above-same (startAt (S .levels) j) (charge M (penaltiesAt (S .levels) j)) (rise (startAt (S .levels) j) (getD lowers j (pos 0))))
 
 judged-same : (c : Bool) (j : Judged) → verdictBy (pick c (softOrWanted j) Dead) ≡ pick c (metOr j) (conflict none)
 judged-same true Met = refl
@@ -160,7 +168,7 @@ judged-same false j = refl
 
 -- ---- THE VERDICT OF A LEVEL'S QUERY
 
-module _ (S : Source) (w : Work) (o : OnLevel S w) {b : Blame} (g : GoodBlame (workQuery w) b) (t : Places) (d : SoundTrail (S .n) t) where
+module _ (S : Source) (f : FormedSource S) (w : Work) (o : OnLevel S w) {b : Blame} (g : GoodBlame (workQuery w) b) (t : Places) (d : SoundTrail (S .n) t) where
   abbrev L : Levels
   L = S .levels
 
@@ -188,7 +196,7 @@ module _ (S : Source) (w : Work) (o : OnLevel S w) {b : Blame} (g : GoodBlame (w
       ap (λ (M : Set). verdictBy (pick (inClass S (w .level) (w .lowers) M) (softOrWanted (firstViolated (violatedAt (levelJudging (w .tables)) M) (blamedOf b ++ assumedIn (w .tables) (w .stratum)))) Dead)) (set-is (S .n) t d)
       ∙ judged-same (inClass S (w .level) (w .lowers) found) (firstViolated (violatedAt (levelJudging (w .tables)) found) (blamedOf b ++ assumedIn (w .tables) (w .stratum)))
       ∙ ap₂ (λ (c : Bool) (U : ℕ → Bool). pick (isStable (S .n) (rulesIn S) found && c) (metOr (firstViolated U (blamedOf b ++ assumedIn (w .tables) (w .stratum)))) (conflict none))
-      (costs-same L (w .lowers) found (w .level)) (fun-ext (λ p. judging-level (w .tables) (o .sound .formed) found p))
+      (costs-same S f (w .lowers) (o .figured) found (w .level) (omega (arith, o .level))) (fun-ext (λ p. judging-level (w .tables) (o .sound .formed) found p))
 
   test-is : testOf (ruleTables S) (S .n) (assumedBy S q b) (t .value) (t .len)
       ≡ testOf (ruleTables S) (S .n)
@@ -220,20 +228,20 @@ module _ (S : Source) (b : Blame) (e : blamedOf b ≡ []) (t : Places) (d : Soun
   abbrev seenSet : Set
   seenSet = trailSet (trailOf t)
 
-  start-full : verdictBy (judgeFull S (workQuery freshWork) (blamedOf b) (t .value)) ≡ pick (isStable (S .n) (rulesIn S) seenSet) wanted (conflict none)
+  start-full : verdictBy (judgeFull S (workQuery (firstWork (S .levels))) (blamedOf b) (t .value)) ≡ pick (isStable (S .n) (rulesIn S) seenSet) wanted (conflict none)
   unfolding queryOf assumedFrom settledFrom firstViolated
   start-full =
-      ap₂ (λ (M : Set) (ms : List ℕ). verdictBy (pick (inClass S 0 (freshWork .lowers) M) (softOrWanted (firstViolated (violatedAt (levelJudging (freshWork .tables)) M) (ms ++ []))) Dead)) (set-is (S .n) t d) e
+      ap₂ (λ (M : Set) (ms : List ℕ). verdictBy (pick (inClass S 0 ((firstWork (S .levels)) .lowers) M) (softOrWanted (firstViolated (violatedAt (levelJudging ((firstWork (S .levels)) .tables)) M) (ms ++ []))) Dead)) (set-is (S .n) t d) e
       ∙ judged-same (isStable (S .n) (rulesIn S) seenSet && true) Met
       ∙ ap (λ (x : Bool). pick x wanted (conflict none)) (and-true (isStable (S .n) (rulesIn S) seenSet))
 
-  start-test-is : testOf (ruleTables S) (S .n) (assumedBy S (workQuery freshWork) b) (t .value) (t .len)
+  start-test-is : testOf (ruleTables S) (S .n) (assumedBy S (workQuery (firstWork (S .levels))) b) (t .value) (t .len)
       ≡ testOf (ruleTables S) (S .n) (assumedEntries [] [] 0 (firstIn S)) (valuesOf (trailOf t)) (length (trailOf t))
   unfolding queryOf assumedFrom keep
   start-test-is =
       test-same (firstIn S) (ruleTables S) (S .n) [] (b .flags) [] 0 (t .value) (t .len) (λ j h. absurd (omega arith))
       ∙ ap₂ (λ (v : List ℕ) (k : ℕ). testOf (ruleTables S) (S .n) (assumedEntries [] [] 0 (firstIn S)) v k) (values-are d) (sym (length-is (S .n) t d))
 
-  pub start-test : verdict S (workQuery freshWork) t b ≡ testStart S (trailOf t)
+  pub start-test : verdict S (workQuery (firstWork (S .levels))) t b ≡ testStart S (trailOf t)
   unfolding queryOf assumedFrom keep
   start-test = ap₂ (λ (j : Verdict) (y : Tested). verdictOf (λ i. 0) j y) start-full start-test-is

@@ -7,12 +7,16 @@ use Prim.Native.Nat.{ℕ, zero, suc, _+_, _-_, _≤_, _<_, zero-le}
 use native.Mathlib.Nat.{sub-zero}
 use native.Mathlib.Omega.{arith}
 use lib.Dec.{eqb, ltb}
+use lib.IntN.{pos, natAbs}
 use lib.ListN.{length, getD, replicate, length-replicate}
 use borrow.Author.Tests.{lt-ltb, le-ltb}
 use Rattle.asp.specs.Sets.{setOf, pick}
 use Rattle.asp.specs.Program.{All, Distinct}
+use Rattle.asp.specs.Penalty.{bulk}
 use Rattle.asp.specs.Stable.{member}
 use Rattle.asp.specs.Tables.{span}
+use Rattle.asp.proofs.Signed.{sum-size}
+use Rattle.asp.proofs.Penalties.{bulk-is, start-size, above-none, is-above}
 use Rattle.search.specs.Machine as machine
 use Rattle.search.specs.declared.trail.Places.{Places}
 use Rattle.search.specs.Places.{SoundTrail, trailOf}
@@ -29,9 +33,9 @@ use Rattle.optimizer.specs.declared.state.Search.{Search}
 use Rattle.optimizer.specs.declared.state.Turn.{Turn}
 use Rattle.optimizer.specs.declared.state.Turn.the-variants.{Going, Without, Model}
 use Rattle.optimum.specs.Optimize.{State, openNext, afterFirst, afterWork}
-use Rattle.optimizer.specs.Source.{Levels, Source, many, levelAt, levelsIn, entriesIn, FormedSource}
+use Rattle.optimizer.specs.Source.{Levels, Source, many, levelAt, startAt, penaltiesAt, penaltiesIn, entriesIn, FormedSource}
 use Rattle.optimizer.specs.Turn.{QueryTables, queryOf, blamedOf, Turned, turned, turns, turnOf, turnsOf, isGoing}
-use Rattle.optimizer.specs.State.{search as searchOf, freshBlame, freshWork, freshSearch, isRunning}
+use Rattle.optimizer.specs.State.{search as searchOf, freshBlame, startsOf, firstWork, freshFor, isRunning}
 use Rattle.optimizer.specs.Finish.{Placed, withBest, openFrom, finishOf}
 use Rattle.optimizer.specs.Advance.{endedQuery, afterTurns, finishTurn, workQuery, bumped, advanceOf, advancesOf, madeBy}
 use Rattle.optimizer.specs.Ready.{ReadyQuery, GoodBlame, ReadyCore}
@@ -40,6 +44,7 @@ use Rattle.optimizer.specs.Meaning.{workOf, meantBy, meant}
 use Rattle.optimum.proofs.Invariant.{levelQuery, GoodWork, GoodFirst, GoodWorking, Inv}
 use Rattle.optimum.proofs.Kept.{core-of, turn-kept, first-kept, start-kept}
 use Rattle.optimizer.proofs.Turning.{turn-sound, turn-blame}
+use Rattle.optimizer.proofs.Figures.{Figured, start-at, starts-long}
 use Rattle.optimizer.proofs.Finishing.{formed-in}
 use Rattle.optimizer.proofs.Fresh.{drop-all, fresh-query, fresh-trail}
 use Rattle.optimizer.proofs.Advancing.{rest-advance, rest-advances}
@@ -143,48 +148,65 @@ module _ (S : Source) (f : FormedSource S) where
     ready = query-ready Level w o
 
     pub answers : Answers S q (P .Class) (P .Assumed) (P .Met)
-    answers = level-answers S f (w .level) (w .lowers) (w .tables) (w .stratum) (omega (arith, o .level)) (o .lowers-len) (o .sound) (o .kinds)
+    answers = level-answers S f (w .level) (w .lowers) (w .tables) (w .stratum) (omega (arith, o .level)) (o .lowers-len) (o .sound) (o .kinds) (o .figured)
 
     -- WHAT IS BLAMED AT THE END OF A QUERY WITHOUT A MODEL IS A CORE, and not empty
     module _ (g : GoodWork (given S) (workOf L w)) (ms : List ℕ) (n : search.NoneMeets P ms) where
-      pub is-core : Core (problem (P .Class) (levelAt L (w .level))) (levelOf (w .tables)) (w .stratum) ms
+      pub is-core : Core (problem (P .Class) (penaltiesAt L (w .level))) (levelOf (w .tables)) (w .stratum) ms
       is-core = core-of (given S) (workOf L w) ms g n
 
       inside : All (λ m. m < w .tables .count) ms
-      inside = core-inside (problem (P .Class) (levelAt L (w .level))) (w .tables) (o .sound) (w .stratum) ms (g .good) is-core
+      inside = core-inside (problem (P .Class) (penaltiesAt L (w .level))) (w .tables) (o .sound) (w .stratum) ms (g .good) is-core
 
       places : All (λ m. m < 4096) ms
-      places = core-places (problem (P .Class) (levelAt L (w .level))) (w .tables) (o .sound) (w .stratum) ms (g .good) is-core
+      places = core-places (problem (P .Class) (penaltiesAt L (w .level))) (w .tables) (o .sound) (w .stratum) ms (g .good) is-core
 
       few : length ms ≤ 4096
       few = distinct-few 4096 ms (n .distinct) places
+
+      level-bulk : bulk (penaltiesAt L (w .level)) ≤ 512000000
+      level-bulk = level-weight (penaltiesAt L (w .level)) (level-formed (entriesIn L) (formed-in L (f .levels)) _)
+
+      -- the bound that is to rise lies above the start by no more than the level weighs
+      figure-small : natAbs (getD (w .lowers) (w .level) (pos 0)) ≤ 2000000000
+      figure-small =
+          rw (o .lower-is)
+          (omega (
+            arith,
+            level-bulk,
+            bulk-is (levelAt L (w .level)),
+            start-size (levelAt L (w .level)),
+            sum-size (startAt L (w .level)) (pos (w .tables .lower)),
+            core-bound (problem (P .Class) (penaltiesAt L (w .level))) (w .tables) (o .sound) (w .stratum) ms (g .good) is-core (omega (arith, level-bulk)),
+          ))
 
       core-ready : ReadyCore w ms
       core-ready = record {
         counted = core-counted (w .tables) (o .sound) (w .stratum) ms (is-core .some) few;
         inside = places;
         bound =
-            core-bound (problem (P .Class) (levelAt L (w .level))) (w .tables) (o .sound) (w .stratum) ms (g .good) is-core
-            (omega (arith, level-weight (levelAt L (w .level)) (level-formed (entriesIn L) (formed-in L (f .levels)) _)));
+            core-bound (problem (P .Class) (penaltiesAt L (w .level))) (w .tables) (o .sound) (w .stratum) ms (g .good) is-core
+            (omega (arith, level-bulk));
+        figure = figure-small;
       }
 
     -- the state after a turn
     after-level : (c k : ℕ) → k ≡ bumpedBy c 0 → GoodWork (given S) (workOf L w) → (x : Turned) → SoundTrail (S .n) (x .trail) → GoodBlame q (x .blame)
-        → Inv (given S) (afterWork (levelsIn L) c (workOf L w) (seen x)) → search.Good P (seen x) → Valid S c (finishTurn S Level k w x)
+        → Inv (given S) (afterWork (penaltiesIn L) c (workOf L w) (seen x)) → search.Good P (seen x) → Valid S c (finishTurn S Level k w x)
     after-level c k e g x d b i h = go (x .turn) i h
       where
-        go : (y : Turn) → Inv (given S) (afterWork (levelsIn L) c (workOf L w) (seenBy y (x .trail) (x .blame))) → search.Good P (seenBy y (x .trail) (x .blame))
+        go : (y : Turn) → Inv (given S) (afterWork (penaltiesIn L) c (workOf L w) (seenBy y (x .trail) (x .blame))) → search.Good P (seenBy y (x .trail) (x .blame))
             → Valid S c (afterTurns L Level k w (turned y (x .trail) (x .blame)))
         go Going i h = record { figure = e; order = o; trail = d; blame = b; inv = i }
         go Without i h = ended-valid c k e (core-means S f w o (blamedOf (x .blame)) (is-core g (blamedOf (x .blame)) h .some) (few g (blamedOf (x .blame)) h) (inside g (blamedOf (x .blame)) h) c) i
         go Model i h = ended-valid c k e (model-means S f w o (x .trail .value) c) i
 
     -- it means what the optimizer of `Optimize` comes to
-    pub means-level : (c k : ℕ) → GoodWork (given S) (workOf L w) → (x : Turned) → search.Good P (seen x) → meant L c (finishTurn S Level k w x) ≡ afterWork (levelsIn L) c (workOf L w) (seen x)
+    pub means-level : (c k : ℕ) → GoodWork (given S) (workOf L w) → (x : Turned) → search.Good P (seen x) → meant L c (finishTurn S Level k w x) ≡ afterWork (penaltiesIn L) c (workOf L w) (seen x)
     means-level c k g x h = go (x .turn) h
       where
         go : (y : Turn) → search.Good P (seenBy y (x .trail) (x .blame))
-            → meant L c (afterTurns L Level k w (turned y (x .trail) (x .blame))) ≡ afterWork (levelsIn L) c (workOf L w) (seenBy y (x .trail) (x .blame))
+            → meant L c (afterTurns L Level k w (turned y (x .trail) (x .blame))) ≡ afterWork (penaltiesIn L) c (workOf L w) (seenBy y (x .trail) (x .blame))
         go Going h = refl
         go Without h =
             sym (meant-ended L c k (finishOf L Level w (x .trail .value) (blamedOf (x .blame)) Without))
@@ -193,13 +215,13 @@ module _ (S : Source) (f : FormedSource S) where
 
     module _ {b : Blame} (d : GoodBlame q b) (t : Places) (k : SoundTrail (S .n) t) where
       pub level-means : (c m : ℕ) → GoodWorking (given S) c (workOf L w) (trailOf t) (blamedOf b)
-          → meant L (suc c) (finishTurn S Level m w (turnOf S q t b)) ≡ afterWork (levelsIn L) (suc c) (workOf L w) (seen (turnOf S q t b))
+          → meant L (suc c) (finishTurn S Level m w (turnOf S q t b)) ≡ afterWork (penaltiesIn L) (suc c) (workOf L w) (seen (turnOf S q t b))
       level-means c m g = means-level (suc c) m (g .work) (turnOf S q t b) (turn-good ready answers d (g .trail .assumed) t k (g .trail))
 
       level-next : (c m : ℕ) → m ≡ bumpedBy (suc c) 0 → GoodWorking (given S) c (workOf L w) (trailOf t) (blamedOf b) → Valid S (suc c) (finishTurn S Level m w (turnOf S q t b))
       level-next c m e g =
           after-level (suc c) m e (g .work) (turnOf S q t b) (turn-sound ready d t k) (turn-blame ready d t k)
-          (subst (λ (x : machine.QueryState). Inv (given S) (afterWork (levelsIn L) (suc c) (workOf L w) x)) (sym (turn-seen ready d t k))
+          (subst (λ (x : machine.QueryState). Inv (given S) (afterWork (penaltiesIn L) (suc c) (workOf L w) x)) (sym (turn-seen ready d t k))
           (turn-kept (given S) c (workOf L w) (trailOf t) (blamedOf b) (verdict S q t b) g (verdict-says ready answers d (g .trail .assumed) t k)))
           (turn-good ready answers d (g .trail .assumed) t k (g .trail))
 
@@ -219,7 +241,7 @@ module _ (S : Source) (f : FormedSource S) where
 
   -- ---- the first query
 
-  pub first-ready : ReadyQuery S (workQuery freshWork)
+  pub first-ready : ReadyQuery S (workQuery (firstWork (S .levels)))
   first-ready = fresh-query S f
 
   -- nothing is blamed in it
@@ -227,48 +249,51 @@ module _ (S : Source) (f : FormedSource S) where
   none-blamed [] a = refl
   none-blamed (m ∷ ms) a = absurd (omega (arith, a .0))
 
-  pub first-blamed : {b : Blame} → GoodBlame (workQuery freshWork) b → blamedOf b ≡ []
+  pub first-blamed : {b : Blame} → GoodBlame (workQuery (firstWork (S .levels))) b → blamedOf b ≡ []
   unfolding queryOf
   first-blamed {b} g = none-blamed (blamedOf b) (g .inside)
 
-  first-model : (c : ℕ) (v : List ℕ) → Opened S f c (openFrom L (withBest L freshWork v) 0) (openNext c [] [] (levelsIn L) (setOf v))
-  first-model c v =
-      subst (λ (k : ℕ). Opened S f c (openFrom L (withBest L freshWork v) 0) (openNext c [] [] (span (levelAt L) 0 k) (setOf v))) (sub-zero (many L))
-      (open-from S f c (withBest L freshWork v) 0 zero-le (length-replicate {A = ℕ} 8 0) (λ i h. zeros-at 8 i) refl empty-sound tt)
+  first-figured : Figured L (startsOf L)
+  first-figured j h = is-above (startAt L j) 0 (start-at L j h ∙ sym (above-none (startAt L j)))
 
-  after-first : (c k : ℕ) → k ≡ bumpedBy c 0 → (x : Turned) → SoundTrail (S .n) (x .trail) → GoodBlame (workQuery freshWork) (x .blame) → Inv (given S) (afterFirst (levelsIn L) c (seen x))
-      → Valid S c (finishTurn S First k freshWork x)
+  first-model : (c : ℕ) (v : List ℕ) → Opened S f c (openFrom L (withBest L (firstWork (S .levels)) v) 0) (openNext c [] [] (penaltiesIn L) (setOf v))
+  first-model c v =
+      subst (λ (k : ℕ). Opened S f c (openFrom L (withBest L (firstWork (S .levels)) v) 0) (openNext c [] [] (span (penaltiesAt L) 0 k) (setOf v))) (sub-zero (many L))
+      (open-from S f c (withBest L (firstWork (S .levels)) v) 0 zero-le (starts-long L (f .levels .levels-few)) first-figured (λ i h. start-at L i) refl empty-sound tt)
+
+  after-first : (c k : ℕ) → k ≡ bumpedBy c 0 → (x : Turned) → SoundTrail (S .n) (x .trail) → GoodBlame (workQuery (firstWork (S .levels))) (x .blame) → Inv (given S) (afterFirst (penaltiesIn L) c (seen x))
+      → Valid S c (finishTurn S First k (firstWork (S .levels)) x)
   after-first c k e x d b i = go (x .turn) i
     where
-      go : (y : Turn) → Inv (given S) (afterFirst (levelsIn L) c (seenBy y (x .trail) (x .blame))) → Valid S c (afterTurns L First k freshWork (turned y (x .trail) (x .blame)))
+      go : (y : Turn) → Inv (given S) (afterFirst (penaltiesIn L) c (seenBy y (x .trail) (x .blame))) → Valid S c (afterTurns L First k (firstWork (S .levels)) (turned y (x .trail) (x .blame)))
       go Going i = record { figure = e; order = refl; trail = d; blame = b; inv = i }
       go Without i = ended-valid c k e (record { means = refl; order = refl }) i
       go Model i = ended-valid c k e (first-model c (x .trail .value)) i
 
   -- it means what the optimizer of `Optimize` comes to
-  pub means-first : (c k : ℕ) (x : Turned) → meant L c (finishTurn S First k freshWork x) ≡ afterFirst (levelsIn L) c (seen x)
+  pub means-first : (c k : ℕ) (x : Turned) → meant L c (finishTurn S First k (firstWork (S .levels)) x) ≡ afterFirst (penaltiesIn L) c (seen x)
   means-first c k x = go (x .turn)
     where
-      go : (y : Turn) → meant L c (afterTurns L First k freshWork (turned y (x .trail) (x .blame))) ≡ afterFirst (levelsIn L) c (seenBy y (x .trail) (x .blame))
+      go : (y : Turn) → meant L c (afterTurns L First k (firstWork (S .levels)) (turned y (x .trail) (x .blame))) ≡ afterFirst (penaltiesIn L) c (seenBy y (x .trail) (x .blame))
       go Going = refl
       go Without = refl
-      go Model = sym (meant-ended L c k (finishOf L First freshWork (x .trail .value) (blamedOf (x .blame)) Model)) ∙ first-model c (x .trail .value) .means
+      go Model = sym (meant-ended L c k (finishOf L First (firstWork (S .levels)) (x .trail .value) (blamedOf (x .blame)) Model)) ∙ first-model c (x .trail .value) .means
 
-  module _ {b : Blame} (d : GoodBlame (workQuery freshWork) b) (t : Places) (k : SoundTrail (S .n) t) where
+  module _ {b : Blame} (d : GoodBlame (workQuery (firstWork (S .levels))) b) (t : Places) (k : SoundTrail (S .n) t) where
     pub none-assumed : All (λ (m : ℕ). ⊥) (blamedOf b)
     none-assumed = subst (All (λ (m : ℕ). ⊥)) (sym (first-blamed d)) tt
 
-    first-next : (c m : ℕ) → m ≡ bumpedBy (suc c) 0 → GoodFirst (given S) c (trailOf t) → Valid S (suc c) (finishTurn S First m freshWork (turnOf S (workQuery freshWork) t b))
+    first-next : (c m : ℕ) → m ≡ bumpedBy (suc c) 0 → GoodFirst (given S) c (trailOf t) → Valid S (suc c) (finishTurn S First m (firstWork (S .levels)) (turnOf S (workQuery (firstWork (S .levels))) t b))
     first-next c m e g =
-        after-first (suc c) m e (turnOf S (workQuery freshWork) t b) (turn-sound first-ready d t k) (turn-blame first-ready d t k)
-        (subst (λ (x : machine.QueryState). Inv (given S) (afterFirst (levelsIn L) (suc c) x))
-        (ap (machine.advanceBy (verdict S (workQuery freshWork) t b) (trailOf t)) (sym (first-blamed d)) ∙ sym (turn-seen first-ready d t k))
-        (first-kept (given S) c (trailOf t) (verdict S (workQuery freshWork) t b) g (verdict-says first-ready (first-answers S f) d none-assumed t k)))
+        after-first (suc c) m e (turnOf S (workQuery (firstWork (S .levels))) t b) (turn-sound first-ready d t k) (turn-blame first-ready d t k)
+        (subst (λ (x : machine.QueryState). Inv (given S) (afterFirst (penaltiesIn L) (suc c) x))
+        (ap (machine.advanceBy (verdict S (workQuery (firstWork (S .levels))) t b) (trailOf t)) (sym (first-blamed d)) ∙ sym (turn-seen first-ready d t k))
+        (first-kept (given S) c (trailOf t) (verdict S (workQuery (firstWork (S .levels))) t b) g (verdict-says first-ready (first-answers S f) d none-assumed t k)))
 
   -- ---- AN ADVANCE KEEPS A STATE VALID
 
-  pub fresh-valid : Valid S 0 freshSearch
-  fresh-valid = record { figure = refl; order = refl; trail = fresh-trail S f; blame = any-blame (workQuery freshWork); inv = start-kept (given S) }
+  pub fresh-valid : Valid S 0 (freshFor (S .levels))
+  fresh-valid = record { figure = refl; order = refl; trail = fresh-trail S f; blame = any-blame (workQuery (firstWork (S .levels))); inv = start-kept (given S) }
 
   advance-by : (p : Phase) (c k : ℕ) (t : Places) (b : Blame) (w : Work) → Valid S c (searchOf p k t b w) → isRunning p ≡ true → Valid S (suc c) (advanceOf S (searchOf p k t b w))
   unfolding advanceOf
@@ -299,8 +324,8 @@ module _ (S : Source) (f : FormedSource S) where
           subst (λ (x : Search). Valid S (c + 0) x) (sym (ap (advancesOf S k) (rest-advance S s r) ∙ rest-advances S k s r)) (subst (λ (n : ℕ). Valid S n s) e v)
 
   -- EVERY STATE THAT ADVANCES FROM A FRESH ONE LEAD TO IS VALID
-  pub reached-valid : (k : ℕ) → Valid S (madeBy S k freshSearch) (advancesOf S k freshSearch)
-  reached-valid k = let e : 0 + madeBy S k freshSearch ≡ madeBy S k freshSearch = omega arith in subst (λ (n : ℕ). Valid S n (advancesOf S k freshSearch)) e (valid-after k 0 freshSearch fresh-valid)
+  pub reached-valid : (k : ℕ) → Valid S (madeBy S k (freshFor (S .levels))) (advancesOf S k (freshFor (S .levels)))
+  reached-valid k = let e : 0 + madeBy S k (freshFor (S .levels)) ≡ madeBy S k (freshFor (S .levels)) = omega arith in subst (λ (n : ℕ). Valid S n (advancesOf S k (freshFor (S .levels)))) e (valid-after k 0 (freshFor (S .levels)) fresh-valid)
 
   -- ---- A VALID STATE CAN BE ADVANCED
 

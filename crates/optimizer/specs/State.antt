@@ -55,5 +55,8 @@ abbrev pub startsOf : Levels → List ℤ
 startsOf L = startsAt (literalsAt (L .levels) 0 (many L)) (entriesIn L) ++ drop (many L) (replicate 8 (pos 0))
 
 -- an optimization of these levels, before its first advance
+abbrev pub firstWork : Levels → Work
+firstWork L = freshWork (startsOf L)
+
 abbrev pub freshFor : Levels → Search
 freshFor L = freshSearch (startsOf L)

@@ -15,7 +15,7 @@ enum-told-2 : tie.Need-enum-told-2
 enum-told-2 c = search needs
 
 finish-level-requires : tie.Need-finish-level-requires
-finish-level-requires c κs = (search needs, c .before .before .before .pre .1 (c .enum-told2 .given .1), c .before .before .before .pre .2)
+finish-level-requires c κs = (search needs, c .before .before .pre .1 (c .enum-told2 .given .1), c .before .before .pre .2)
 
 enum-told-3 : tie.Need-enum-told-3
 enum-told-3 c = search needs

@@ -27,7 +27,7 @@ enum-told-3 : tie.Need-enum-told-3
 enum-told-3 c = search needs
 
 with-model-requires : tie.Need-with-model-requires
-with-model-requires c κs = (search needs, search needs, c .before .before .before .pre .2 (c .enum-told3 .given .1))
+with-model-requires c κs = (search needs, search needs, c .before .before .pre .2 (c .enum-told3 .given .1))
 
 returns-2 : tie.Need-returns-2
 returns-2 c = search (level-going, c .before .enum-told .given .1, needs)

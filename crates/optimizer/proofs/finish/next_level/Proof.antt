@@ -3,27 +3,25 @@
 use borrow.Author.Needs.{needs}
 use Prim.Native.Nat.{_-_}
 use native.Mathlib.Omega.{arith}
+use borrow.Author.Tests.{not-true, not-false}
 use Rattle.optimizer.proofs.Finishing.{Seeking, seek-start, seek-next, seek-found, seek-end}
 use Rattle.optimizer.proofs.finish.next_level.Statement.{statement}
 use Rattle.optimizer.proofs.finish.next_level.Tie as tie
 
 abbrev Inv-loop : tie.InvT-loop
-Inv-loop j k uppers i₀ i = Seeking uppers j k i
+Inv-loop lowers uppers j k i₀ i = Seeking lowers uppers j k i
 
 abbrev μ-loop : tie.MeasureT-loop
-μ-loop j k uppers i₀ i = k - i
+μ-loop lowers uppers j k i₀ i = k - i
 
 loop-holds : tie.Need-loop-holds Inv-loop μ-loop
 loop-holds c = search (seek-start, needs)
 
-mul-if1 : tie.Need-mul-if1 Inv-loop μ-loop
-mul-if1 c = search needs
-
-array-read-if1 : tie.Need-array-read-if1 Inv-loop μ-loop
-array-read-if1 c = omega arith
+equal-at-requires : tie.Need-equal-at-requires Inv-loop μ-loop
+equal-at-requires c κs = (omega arith, omega arith)
 
 returns : tie.Need-returns Inv-loop μ-loop
-returns c = (search (seek-found, needs), search needs)
+returns c = (search (seek-found, not-true, needs), search needs)
 
 add-i : tie.Need-add-i Inv-loop μ-loop
 add-i c = omega arith
@@ -32,7 +30,7 @@ loop-less : tie.Need-loop-less Inv-loop μ-loop
 loop-less c = omega arith
 
 loop-again : tie.Need-loop-again Inv-loop μ-loop
-loop-again c = search (seek-next, needs)
+loop-again c = search (seek-next, not-false, needs)
 
 returns-2 : tie.Need-returns-2 Inv-loop μ-loop
 returns-2 c = (search (seek-end, needs), search needs)
@@ -44,8 +42,7 @@ next-level-spec =
     Inv-loop
     μ-loop
     loop-holds
-    mul-if1
-    array-read-if1
+    equal-at-requires
     returns
     add-i
     loop-less

@@ -1,7 +1,7 @@
 -- `optimizer::finish::open_from` meets its contract.
 -- Assumes nothing.
-use Rattle.optimizer.proofs.Finishing.{open-yes, open-no}
 use borrow.Author.Needs.{needs}
+use Rattle.optimizer.proofs.Finishing.{open-yes, open-no}
 use Rattle.optimizer.proofs.finish.open_from.Statement.{statement}
 use Rattle.optimizer.proofs.finish.open_from.Tie as tie
 
@@ -23,9 +23,4 @@ returns-2 c = search (open-no, needs)
 pub open-from-spec : {M : Type 1} → statement M
 open-from-spec =
     tie.close
-    (tie.spec
-    next-level-requires
-    figures-of-requires
-    returns
-    figures-of-requires-2
-    returns-2)
+    (tie.spec next-level-requires figures-of-requires returns figures-of-requires-2 returns-2)

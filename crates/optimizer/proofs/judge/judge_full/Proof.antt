@@ -10,7 +10,7 @@ in-class-requires : tie.Need-in-class-requires
 in-class-requires c κs = search needs
 
 judge-both-requires : tie.Need-judge-both-requires
-judge-both-requires c κs = let p = c .before .before .before .before .before .before .before .before .before .before .before .before .before .before .before .pre in (p .1 .0, (p .1 .1 .0 .1, (p .1 .1 .0 .0, omega (arith, p .0))))
+judge-both-requires c κs = let p = c .before .before .before .before .before .before .before .before .before .before .before .before .before .before .pre in (p .1 .0, (p .1 .1 .0 .1, (p .1 .1 .0 .0, omega (arith, p .0))))
 
 soft-or-wanted-requires : tie.Need-soft-or-wanted-requires
 soft-or-wanted-requires c κs = search needs

@@ -12,7 +12,7 @@ lists-of-requires-2 : tie.Need-lists-of-requires-2
 lists-of-requires-2 c κs = search needs
 
 tried-first-requires : tie.Need-tried-first-requires
-tried-first-requires c κs = let f = c .before .before .before .before .pre in (formed-each (f .rules), f .levels .entries)
+tried-first-requires c κs = let f = c .before .before .before .pre in (formed-each (f .rules), f .levels .entries)
 
 returns : tie.Need-returns
 returns c = search needs

@@ -20,10 +20,10 @@ reach : (c : tie.After-assumed2) → c .assumed2 .result ≤ length (c .assumed2
 reach c = assumed-reach _ _ (search needs) (c .assumed2 .ensures)
 
 reach-wished : (c : tie.After-entries) → c .entries .result ≤ length (c .entries .last .1 .1 .1 .1 .0)
-reach-wished c = wished-reach _ _ (c .before .before .before .before .before .before .before .before .before .before .before .before .before .before .before .before .before .before .pre .1 .1 .1 .0 .0) (c .before .before .before .before .assumed2 .ensures) (c .before .before .before .before .before .before .before .before .before .before .before .before .before .before .before .before .before .before .args .softs .now) (c .before .before .before .before .before .before .before .before .before .before .before .before .before .before .before .before .before .before .args .cores .now) (c .entries .ensures)
+reach-wished c = wished-reach _ _ (c .before .before .before .before .before .before .before .before .before .before .before .before .before .before .before .before .before .pre .1 .1 .1 .0 .0) (c .before .before .before .before .assumed2 .ensures) (c .before .before .before .before .before .before .before .before .before .before .before .before .before .before .before .before .before .args .softs .now) (c .before .before .before .before .before .before .before .before .before .before .before .before .before .before .before .before .before .args .cores .now) (c .entries .ensures)
 
 reach-spots : (c : tie.After-entries) → c .entries .result ≤ length (c .entries .last .1 .1 .1 .0)
-reach-spots c = spots-reach _ _ (c .before .before .before .before .before .before .before .before .before .before .before .before .before .before .before .before .before .before .pre .1 .1 .1 .0 .0) (c .before .before .before .before .assumed2 .ensures) (c .before .before .before .before .before .before .before .before .before .before .before .before .before .before .before .before .before .before .args .softs .now) (c .before .before .before .before .before .before .before .before .before .before .before .before .before .before .before .before .before .before .args .cores .now) (c .entries .ensures)
+reach-spots c = spots-reach _ _ (c .before .before .before .before .before .before .before .before .before .before .before .before .before .before .before .before .before .pre .1 .1 .1 .0 .0) (c .before .before .before .before .assumed2 .ensures) (c .before .before .before .before .before .before .before .before .before .before .before .before .before .before .before .before .before .args .softs .now) (c .before .before .before .before .before .before .before .before .before .before .before .before .before .before .before .before .before .args .cores .now) (c .entries .ensures)
 
 assumed-requires : tie.Need-assumed-requires
 assumed-requires c κs = search needs
@@ -36,7 +36,7 @@ slice-aggregate-entries c = cut-long _ _ (reach (c .before))
 
 entries-requires : tie.Need-entries-requires
 entries-requires c κs =
-    let a = c .before .before .before .before .before .before .before .before .before .before .before .before .before .before .before .before .before in
+    let a = c .before .before .before .before .before .before .before .before .before .before .before .before .before .before .before .before in
     let r = a .pre .0 in
     let e = c .before .before .before .assumed2 .ensures in
     let few = a .pre .1 .1 .1 .0 .0 in
@@ -62,7 +62,7 @@ slice-aggregate-run-lent-3 c = cut-long _ _ (reach (c .before .before .before .b
 
 run-lent-requires : tie.Need-run-lent-requires
 run-lent-requires c κs =
-    let a = c .before .before .before .before .before .before .before .before .before .before .before .before .before .before .before .before .before .before .before .before .before .before .before .before .before .before in
+    let a = c .before .before .before .before .before .before .before .before .before .before .before .before .before .before .before .before .before .before .before .before .before .before .before .before .before in
     let S = source (a .args .n) (a .args .pool .now) (a .args .rows .now) (a .args .rulecount) (levelTables (a .args .levels .now) (a .args .priorities .now) (a .args .literals .now) (a .args .weights .now) (a .args .entrycount)) in
     let q = fronts-query _ _ (a .pre .1 .1 .1 .0 .0) (c .before .before .before .before .before .before .before .before .before .before .before .before .assumed2 .ensures) (a .args .softs .now) (a .args .cores .now) (c .before .before .before .before .before .before .before .before .entries .ensures) (a .args .level) (a .args .lowers .now) (a .args .indices .now) (a .args .ends .now) (a .args .members .now) in
     (subst (λ (x : QueryTables). ReadyQuery S x) (sym q) (a .pre .0), (subst (λ (x : QueryTables). GoodBlame x (blameTables (a .args .flags .now) (a .args .core .now) (a .args .from))) (sym q) (a .pre .1 .0), (a .pre .1 .1 .0, a .pre .1 .1 .1 .1)))
@@ -72,7 +72,7 @@ same-length c = search needs
 
 returns : tie.Need-returns
 returns c =
-    let a = c .before .before .before .before .before .before .before .before .before .before .before .before .before .before .before .before .before .before .before .before .before .before .before .before .before .before .before .before .before in
+    let a = c .before .before .before .before .before .before .before .before .before .before .before .before .before .before .before .before .before .before .before .before .before .before .before .before .before .before .before .before in
     let S = source (a .args .n) (a .args .pool .now) (a .args .rows .now) (a .args .rulecount) (levelTables (a .args .levels .now) (a .args .priorities .now) (a .args .literals .now) (a .args .weights .now) (a .args .entrycount)) in
     let q = fronts-query _ _ (a .pre .1 .1 .1 .0 .0) (c .before .before .before .before .before .before .before .before .before .before .before .before .before .before .before .assumed2 .ensures) (a .args .softs .now) (a .args .cores .now) (c .before .before .before .before .before .before .before .before .before .before .before .entries .ensures) (a .args .level) (a .args .lowers .now) (a .args .indices .now) (a .args .ends .now) (a .args .members .now) in
     c .before .before .run-lent .ensures ∙ ap (λ (x : QueryTables). turnsOf S x (a .args .budget) (places (a .args .lits .now) (a .args .marks .now) (a .args .value .now) (a .args .len)) (blameTables (a .args .flags .now) (a .args .core .now) (a .args .from))) q

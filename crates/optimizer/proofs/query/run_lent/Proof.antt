@@ -7,12 +7,12 @@ use Rattle.optimizer.proofs.query.run_lent.Tie as tie
 
 fill-requires : tie.Need-fill-requires
 fill-requires c κs =
-    let a = c .before .before .before .before .before .before .before .before .before .before .before .before .before .before .before in
+    let a = c .before .before .before .before .before .before .before .before .before .before .before .before .before .before in
     (lists-indexed (a .pre .1 .1 .1 .lists), (lists-long (a .pre .1 .1 .1 .lists), search needs, sound-small-values (a .pre .1 .1 .0)))
 
 turns-requires : tie.Need-turns-requires
 turns-requires c κs =
-    let a = c .before .before .before .before .before .before .before .before .before .before .before .before .before .before .before .before .before .before .before .before .before .before in
+    let a = c .before .before .before .before .before .before .before .before .before .before .before .before .before .before .before .before .before .before .before .before .before in
     (a .pre .0, (a .pre .1 .0, (a .pre .1 .1 .0, (equipped (a .pre .1 .1 .1 .lists) (c .before .before .before .before .before .before .fill .ensures), a .pre .1 .1 .1 .table))))
 
 same-length : tie.Need-same-length

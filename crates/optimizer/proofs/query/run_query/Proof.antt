@@ -16,11 +16,11 @@ use Rattle.optimizer.proofs.query.run_query.Statement.{statement}
 use Rattle.optimizer.proofs.query.run_query.Tie as tie
 
 -- what is known where the columns are unpacked
-sound : (c : tie.After-unpack) → SoundTables (c .before .before .before .before .before .before .before .before .before .before .before .before .before .before .args .w .tables)
-sound c = c .before .before .before .before .before .before .before .before .before .before .before .before .before .before .pre .1 .1 .1 .0
+sound : (c : tie.After-unpack) → SoundTables (c .before .before .before .before .before .before .before .before .before .before .before .before .before .args .w .tables)
+sound c = c .before .before .before .before .before .before .before .before .before .before .before .before .before .pre .1 .1 .1 .0
 
 filled : (c : tie.After-unpack)
-    → FilledColumns (c .before .before .before .before .before .before .before .before .before .before .before .before .before .before .args .w .tables) (columns (c .unpack .last .1 .1 .0) (c .unpack .last .1 .1 .1 .0) (c .unpack .last .1 .1 .1 .1 .0) (c .unpack .last .1 .1 .1 .1 .1 .0))
+    → FilledColumns (c .before .before .before .before .before .before .before .before .before .before .before .before .before .args .w .tables) (columns (c .unpack .last .1 .1 .0) (c .unpack .last .1 .1 .1 .0) (c .unpack .last .1 .1 .1 .1 .0) (c .unpack .last .1 .1 .1 .1 .1 .0))
 filled c = filled-by (sound c .formed) zeros-long (c .unpack .ensures)
 
 unpack-requires : tie.Need-unpack-requires
@@ -73,7 +73,7 @@ slice-aggregate-run-columns-6 c = cut-long _ _ (omega (arith, c .before .before 
 
 run-columns-requires : tie.Need-run-columns-requires
 run-columns-requires c κs =
-    let a = c .before .before .before .before .before .before .before .before .before .before .before .before .before .before .before .before .before .before .before .before .before .before .before .before .before .before .before .before .before .before .before in
+    let a = c .before .before .before .before .before .before .before .before .before .before .before .before .before .before .before .before .before .before .before .before .before .before .before .before .before .before .before .before .before .before in
     let u = c .before .before .before .before .before .before .before .before .before .before .before .before .before .before .before .before .before in
     let e = c .before .before .before .before .before .before .before .before .before .before .before .before .at .ensures in
     let S = source (a .args .n) (a .args .pool .now) (a .args .rows .now) (a .args .rulecount) (levelTables (a .args .levels .now) (a .args .priorities .now) (a .args .literals .now) (a .args .weights .now) (a .args .entrycount)) in
@@ -94,7 +94,7 @@ same-length c = search needs
 
 returns : tie.Need-returns
 returns c =
-    let a = c .before .before .before .before .before .before .before .before .before .before .before .before .before .before .before .before .before .before .before .before .before .before .before .before .before .before .before .before .before .before .before .before .before .before .before .before in
+    let a = c .before .before .before .before .before .before .before .before .before .before .before .before .before .before .before .before .before .before .before .before .before .before .before .before .before .before .before .before .before .before .before .before .before .before .before in
     let u = c .before .before .before .before .before .before .before .before .before .before .before .before .before .before .before .before .before .before .before .before .before .before in
     let e = c .before .before .before .before .before .before .before .before .before .before .before .before .before .before .before .before .before .at .ensures in
     let S = source (a .args .n) (a .args .pool .now) (a .args .rows .now) (a .args .rulecount) (levelTables (a .args .levels .now) (a .args .priorities .now) (a .args .literals .now) (a .args .weights .now) (a .args .entrycount)) in

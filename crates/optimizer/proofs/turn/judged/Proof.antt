@@ -34,9 +34,9 @@ abbrev accused : tie.Start → Blame
 accused s = blameTables (s .args .flags .now) (s .args .core .now) (s .args .from)
 
 -- the judgement, as the call says it
-found : (c : tie.After-judge-full) → c .judge-full .result ≡ judgeFull (given (c .before .before .before .before .before .before .before .before .before .before .before .before .before .before .before .before .before .before)) (asked (c .before .before .before .before .before .before .before .before .before .before .before .before .before .before .before .before .before .before)) (blamedOf (accused (c .before .before .before .before .before .before .before .before .before .before .before .before .before .before .before .before .before .before))) (c .before .before .before .before .before .before .before .before .before .before .before .before .before .before .before .before .before .before .args .value .now)
+found : (c : tie.After-judge-full) → c .judge-full .result ≡ judgeFull (given (c .before .before .before .before .before .before .before .before .before .before .before .before .before .before .before .before .before)) (asked (c .before .before .before .before .before .before .before .before .before .before .before .before .before .before .before .before .before)) (blamedOf (accused (c .before .before .before .before .before .before .before .before .before .before .before .before .before .before .before .before .before))) (c .before .before .before .before .before .before .before .before .before .before .before .before .before .before .before .before .before .args .value .now)
 found c =
-    let s = c .before .before .before .before .before .before .before .before .before .before .before .before .before .before .before .before .before .before in
+    let s = c .before .before .before .before .before .before .before .before .before .before .before .before .before .before .before .before .before in
     c .judge-full .ensures (s .args .wished .now) (s .args .spots .now)
     ∙ ap (λ (ms : List ℕ). judgeFull (given s) (asked s) ms (s .args .value .now)) (c .before .before .before .blamed .ensures)
 
@@ -45,7 +45,7 @@ blamed-requires c κs = search needs
 
 judge-full-requires : tie.Need-judge-full-requires
 judge-full-requires c κs =
-    let s = c .before .before .before .before .before .before .before .before .before .before .before .before .before .before .before .before .before in
+    let s = c .before .before .before .before .before .before .before .before .before .before .before .before .before .before .before .before in
     let r = s .pre .0 in
     let g = s .pre .1 .0 in
     ((r .source .rules, r .level, omega (arith, r .level, r .source .levels .levels-few), r .source .levels .entries, s .pre .1 .1 .0 .good .value-len, r .lowers-len), (r .judging, ((r .assumed-in, rw (c .before .before .blamed .ensures) (g .inside)), s .pre .1 .1 .1)))
@@ -57,7 +57,7 @@ enum-told-2 : tie.Need-enum-told-2
 enum-told-2 c = search needs
 
 back-requires : tie.Need-back-requires
-back-requires c κs = (c .before .before .before .before .before .before .before .before .before .before .before .before .before .before .before .before .before .before .before .before .before .before .before .before .pre .1 .1 .0 .good, leaf-equipped (c .before .before .before .before .before .before .before .before .before .before .before .before .before .before .before .before .before .before .before .before .before .before .before .before .pre .1 .1 .1))
+back-requires c κs = (c .before .before .before .before .before .before .before .before .before .before .before .before .before .before .before .before .before .before .before .before .before .before .before .pre .1 .1 .0 .good, leaf-equipped (c .before .before .before .before .before .before .before .before .before .before .before .before .before .before .before .before .before .before .before .before .before .before .before .pre .1 .1 .1))
 
 backed-requires : tie.Need-backed-requires
 backed-requires c κs = search needs
@@ -67,14 +67,14 @@ enum-known-j c = search needs
 
 blame-place-requires : tie.Need-blame-place-requires
 blame-place-requires c κs =
-    let s = c .before .before .before .before .before .before .before .before .before .before .before .before .before .before .before .before .before .before .before .before .before .before .before in
+    let s = c .before .before .before .before .before .before .before .before .before .before .before .before .before .before .before .before .before .before .before .before .before .before in
     let r = s .pre .0 in
     let g = s .pre .1 .0 in
     let i : c .before .before .before .j .given .0 .0 < softs (asked s) = violated-in r g (s .args .value .now) (sym (c .before .before .before .j .given .1) ∙ found (c .before .before .before .before .before)) in
     (omega (arith, i, r .few), g .from-in, omega (arith, r .places-long, r .wished-few), g .flags-len, g .core-len, blame-room r g (c .before .before .before .j .given .0 .0) i)
 
 back-requires-2 : tie.Need-back-requires-2
-back-requires-2 c κs = (c .before .before .before .before .before .before .before .before .before .before .before .before .before .before .before .before .before .before .before .before .before .before .before .before .before .before .before .before .before .before .pre .1 .1 .0 .good, leaf-equipped (c .before .before .before .before .before .before .before .before .before .before .before .before .before .before .before .before .before .before .before .before .before .before .before .before .before .before .before .before .before .before .pre .1 .1 .1))
+back-requires-2 c κs = (c .before .before .before .before .before .before .before .before .before .before .before .before .before .before .before .before .before .before .before .before .before .before .before .before .before .before .before .before .before .pre .1 .1 .0 .good, leaf-equipped (c .before .before .before .before .before .before .before .before .before .before .before .before .before .before .before .before .before .before .before .before .before .before .before .before .before .before .before .before .before .pre .1 .1 .1))
 
 backed-requires-2 : tie.Need-backed-requires-2
 backed-requires-2 c κs = search needs
@@ -83,14 +83,14 @@ same-length : tie.Need-same-length
 same-length c = search needs
 
 returns : tie.Need-returns
-returns c = let s = c .before .before .before .before .before .before .before .before .before .before .before .before .before .before .before .before .before .before .before .before in (judged-wanted (given s) (asked s) (there s) (accused s) (found (c .before .before)) (c .enum-told .given .1), leaf-equipped (s .pre .1 .1 .1))
+returns c = let s = c .before .before .before .before .before .before .before .before .before .before .before .before .before .before .before .before .before .before .before in (judged-wanted (given s) (asked s) (there s) (accused s) (found (c .before .before)) (c .enum-told .given .1), leaf-equipped (s .pre .1 .1 .1))
 
 same-length-2 : tie.Need-same-length-2
 same-length-2 c = search needs
 
 returns-2 : tie.Need-returns-2
 returns-2 c =
-    let s = c .before .before .before .before .before .before .before .before .before .before .before .before .before .before .before .before .before .before .before .before .before .before .before .before .before .before .before in
+    let s = c .before .before .before .before .before .before .before .before .before .before .before .before .before .before .before .before .before .before .before .before .before .before .before .before .before .before in
     let b = c .before .before .back in (
       judged-dead (given s) (asked s) (there s) (accused s) (found (c .before .before .before .before .before .before .before .before .before)) (c .before .before .before .before .before .before .before .enum-told2 .given .1)
           (backed-is (b .last .1 .1 .1 .1 .1 .1 .1 .0) (b .last .1 .1 .1 .1 .1 .1 .1 .1 .0) (b .last .1 .1 .1 .1 .1 .1 .1 .1 .1 .0) (b .result .len) (s .args .from) (s .args .flags .now) (s .args .core .now) (c .backed .ensures) (b .ensures .0)),
@@ -102,7 +102,7 @@ same-length-3 c = search needs
 
 returns-3 : tie.Need-returns-3
 returns-3 c =
-    let s = c .before .before .before .before .before .before .before .before .before .before .before .before .before .before .before .before .before .before .before .before .before .before .before .before .before .before .before .before .before .before .before .before .before in
+    let s = c .before .before .before .before .before .before .before .before .before .before .before .before .before .before .before .before .before .before .before .before .before .before .before .before .before .before .before .before .before .before .before .before in
     let b = c .before .before .back2 in
     let a = c .before .before .before .before .before .before .before .before .before .blame-place in (
       judged-violated (given s) (asked s) (there s) (accused s) (found (c .before .before .before .before .before .before .before .before .before .before .before .before .before .before .before)) (c .before .before .before .before .before .before .before .before .before .before .before .before .before .j .given .1) (a .ensures)

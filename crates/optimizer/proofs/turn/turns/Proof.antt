@@ -26,34 +26,34 @@ abbrev μ-loop : tie.MeasureT-loop
     budget - made
 
 loop-holds : tie.Need-loop-holds Inv-loop μ-loop
-loop-holds c = tracked (search (turns-start, needs)) (c .before .before .before .before .before .before .before .before .before .before .before .before .before .pre .1 .1 .1 .0)
+loop-holds c = tracked (search (turns-start, needs)) (c .before .before .before .before .before .before .before .before .before .before .before .before .pre .1 .1 .1 .0)
 
 turn-requires : tie.Need-turn-requires Inv-loop μ-loop
-turn-requires c κs = (c .before .before .before .before .before .before .before .before .before .before .before .before .before .before .before .before .before .before .before .before .before .pre .0, (c .before .before .before .before .before .before .before .loop .inv .on .blame, (c .before .before .before .before .before .before .before .loop .inv .on .trail, (c .before .before .before .before .before .before .before .loop .inv .tallied, c .before .before .before .before .before .before .before .before .before .before .before .before .before .before .before .before .before .before .before .before .before .pre .1 .1 .1 .1))))
+turn-requires c κs = (c .before .before .before .before .before .before .before .before .before .before .before .before .before .before .before .before .before .before .before .before .pre .0, (c .before .before .before .before .before .before .before .loop .inv .on .blame, (c .before .before .before .before .before .before .before .loop .inv .on .trail, (c .before .before .before .before .before .before .before .loop .inv .tallied, c .before .before .before .before .before .before .before .before .before .before .before .before .before .before .before .before .before .before .before .before .pre .1 .1 .1 .1))))
 
 add-made : tie.Need-add-made Inv-loop μ-loop
-add-made c = omega (arith, c .before .before .before .before .before .before .before .before .before .before .loop-test .taken, c .before .before .before .before .before .before .before .before .before .before .before .before .before .before .before .before .before .before .before .before .before .before .before .before .before .fits .budget)
+add-made c = omega (arith, c .before .before .before .before .before .before .before .before .before .before .loop-test .taken, c .before .before .before .before .before .before .before .before .before .before .before .before .before .before .before .before .before .before .before .before .before .before .before .before .fits .budget)
 
 is-going-requires : tie.Need-is-going-requires Inv-loop μ-loop
 is-going-requires c κs = search needs
 
 same-length : tie.Need-same-length Inv-loop μ-loop
-same-length c = c .before .before .before .before .before .turn .kept .1 .1 .1 .1 .1 .1 .1 .1 .1 .1 .1 .1 .1 .1 .1 .1 .1 .1 .1 .1 .1 .1 .1 .1 .1 .1 .1 .1 .1 .0 ∙ c .before .before .before .before .before .before .before .before .before .before .before .before .before .loop .inv .on .blame .core-len ∙ sym (c .before .before .before .before .before .before .before .before .before .before .before .before .before .before .before .before .before .before .before .before .before .before .before .before .before .before .before .pre .1 .0 .core-len)
+same-length c = c .before .before .before .before .before .turn .kept .1 .1 .1 .1 .1 .1 .1 .1 .1 .1 .1 .1 .1 .1 .1 .1 .1 .1 .1 .1 .1 .1 .1 .1 .1 .1 .1 .1 .1 .0 ∙ c .before .before .before .before .before .before .before .before .before .before .before .before .before .loop .inv .on .blame .core-len ∙ sym (c .before .before .before .before .before .before .before .before .before .before .before .before .before .before .before .before .before .before .before .before .before .before .before .before .before .before .pre .1 .0 .core-len)
 
 returns : tie.Need-returns Inv-loop μ-loop
-returns c = turns-out (c .before .before .before .before .before .before .before .before .before .before .before .before .before .before .before .before .before .before .before .before .before .before .before .before .before .before .before .pre .0) (c .before .before .before .before .before .before .before .before .before .before .before .before .before .loop .inv .on) (c .before .before .before .before .before .before .before .before .before .before .before .before .loop-test .taken) (c .before .before .before .before .before .turn .ensures .0) (c .before .is-going .ensures) (not-true _ (c .if1 .taken))
+returns c = turns-out (c .before .before .before .before .before .before .before .before .before .before .before .before .before .before .before .before .before .before .before .before .before .before .before .before .before .before .pre .0) (c .before .before .before .before .before .before .before .before .before .before .before .before .before .loop .inv .on) (c .before .before .before .before .before .before .before .before .before .before .before .before .loop-test .taken) (c .before .before .before .before .before .turn .ensures .0) (c .before .is-going .ensures) (not-true _ (c .if1 .taken))
 
 loop-less : tie.Need-loop-less Inv-loop μ-loop
 loop-less c = omega arith
 
 loop-again : tie.Need-loop-again Inv-loop μ-loop
-loop-again c = tracked (turns-next (c .before .before .before .before .before .before .before .before .before .before .before .before .before .before .before .before .before .before .before .before .before .before .before .before .before .before .before .before .pre .0) (c .before .before .before .before .before .before .before .before .before .before .before .before .before .before .loop .inv .on) (c .before .before .before .before .before .before .before .before .before .before .before .before .before .loop-test .taken) (c .before .before .before .before .before .before .turn .ensures .0) (c .before .before .is-going .ensures) (not-false _ (c .before .if1 .left))) (c .before .before .before .before .before .before .turn .ensures .1)
+loop-again c = tracked (turns-next (c .before .before .before .before .before .before .before .before .before .before .before .before .before .before .before .before .before .before .before .before .before .before .before .before .before .before .before .pre .0) (c .before .before .before .before .before .before .before .before .before .before .before .before .before .before .loop .inv .on) (c .before .before .before .before .before .before .before .before .before .before .before .before .before .loop-test .taken) (c .before .before .before .before .before .before .turn .ensures .0) (c .before .before .is-going .ensures) (not-false _ (c .before .if1 .left))) (c .before .before .before .before .before .before .turn .ensures .1)
 
 same-length-2 : tie.Need-same-length-2 Inv-loop μ-loop
-same-length-2 c = c .before .loop .inv .on .blame .core-len ∙ sym (c .before .before .before .before .before .before .before .before .before .before .before .before .before .before .before .pre .1 .0 .core-len)
+same-length-2 c = c .before .loop .inv .on .blame .core-len ∙ sym (c .before .before .before .before .before .before .before .before .before .before .before .before .before .before .pre .1 .0 .core-len)
 
 returns-2 : tie.Need-returns-2 Inv-loop μ-loop
-returns-2 c = turns-done (c .before .before .before .before .before .before .before .before .before .before .before .before .before .before .before .pre .0) (c .before .loop .inv .on) (c .loop-test .left)
+returns-2 c = turns-done (c .before .before .before .before .before .before .before .before .before .before .before .before .before .before .pre .0) (c .before .loop .inv .on) (c .loop-test .left)
 
 pub turns-spec : {M : Type 1} → statement M
 turns-spec =
