@@ -1,5 +1,5 @@
 #!/usr/bin/env python3
-"""A reader of texts in Python, written from document 01 alone: the program of a text, or its refusal's number and line.
+"""A reader of texts in Python, written from documents 01 and 02 (order 1) alone: the program of a text, or its refusal's number and line.
 
 tests/aspif_texts.py and tests/service.py use it.
 """
@@ -84,7 +84,7 @@ def statement(line, p):
         pairs = []
         for _ in range(k):
             z = f.literal()
-            pairs.append((q, z, f.next(0, 1000000)))
+            pairs.append((q, z, f.next(-1000000, 1000000, True)))
         f.end()
         p.entries += pairs
         p.levels.add(q)

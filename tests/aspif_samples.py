@@ -1,8 +1,12 @@
 #!/usr/bin/env python3
-"""Writes crates/aspif/proofs/Samples.antt: texts of document 01 with the answers that it gives, proved by computation."""
+"""Writes crates/aspif/proofs/Samples.antt: texts of document 01 and order 1 with the answers that they give, proved by computation."""
 import os
 H = "asp 1 0 0\n"
 PLAN = H + "1 1 2 1 2 0 0\n1 0 1 3 0 2 1 2\n1 0 0 0 2 -1 -2\n2 1 2 1 2 2 3\n4 1 a 1 1\n4 1 b 1 2\n0\n"
+# both edges of a weight's range, a weight just below zero, and opposite signs on one literal
+REWARDS = H + "2 0 5 1 -1000000 -2 1000000 1 -1 1 1 3 0\n0\n"
+REWARD_ENTRIES = "".join(f"record {{ priority = pos 0; literal = {z}; weight = {w} }} ∷ " for z, w in [
+    ("pos 1", "negsuc 999999"), ("negsuc 1", "pos 1000000"), ("pos 1", "negsuc 0"), ("pos 1", "pos 1"), ("pos 3", "pos 0")]) + "[]"
 CASES = [
     ("no text", "", (1, 1)),
     ("line 1 without its byte 10", "asp 1 0 0", (2, 1)),
@@ -24,6 +28,11 @@ CASES = [
     ("a space at the end", H + "1 0 0 0 0 \n0\n", (2, 2)),
     ("priority -1,001", H + "2 -1001 0\n0\n", (4, 2)),
     ("weight 1,000,001", H + "2 0 1 1 1000001\n0\n", (4, 2)),
+    ("weight -1,000,001", H + "2 0 1 1 -1000001\n0\n", (4, 2)),
+    ("weight -0", H + "2 0 1 1 -0\n0\n", (2, 2)),
+    ("weight -01", H + "2 0 1 1 -01\n0\n", (2, 2)),
+    ("a minus and no weight", H + "2 0 1 1 -\n0\n", (2, 2)),
+    ("a count of pairs with a minus", H + "2 0 -1 1 5\n0\n", (2, 2)),
     ("a name byte 127", H + "4 1 \x7f 0\n0\n", (2, 2)),
     ("a 65-byte name is 4", H + "4 65 " + "n" * 65 + " 0\n0\n", (4, 2)),
     ("nine priorities are 5", H + "".join(f"2 {q} 0\n" for q in range(9)) + "0\n", (5, 10)),
@@ -32,14 +41,14 @@ CASES = [
 def lits(text):
     return "".join(f"{ord(c)} ∷ " for c in text) + "[]"
 
-OPEN = "unfolding textOf pieces same lines stepped statement token number digits decimal natural signedToken signed atom literal more opening bodyCount ruleLine pair minimiseLine symbolLine ofKind fits sum insert"
-out = ["-- Texts of document 01 with the answers that it gives, each by computation. Written by tests/aspif_samples.py. Assumes nothing.",
+OPEN = "unfolding textOf pieces sameBytes lines steppedLine statement token number digits decimal natural signedToken signed atom literal more opening bodyCount ruleLine pair minimiseLine symbolLine ofKind fits sum insert"
+out = ["-- Texts of document 01 and order 1 with the answers that they give, each by computation. Written by tests/aspif_samples.py. Assumes nothing.",
        "use mathlib.Core.Path.{_≡_, refl}",
        "use mathlib.Core.List.{List, [], _∷_, map}",
        "use Prim.Native.Nat.{ℕ}",
        "use lib.IntN.{pos, negsuc}",
        "use Rattle.asp.specs.Program.{normal, constraint, plain, choice, Program}",
-       "use Rattle.aspif_lines.specs.Text.{textOf, pieces, same, lines, stepped, statement, token, number, digits, decimal, natural, signedToken, signed, atom, literal, more, opening, bodyCount, ruleLine, pair, minimiseLine, symbolLine, ofKind, fits, sum, insert, accepted, refused}",
+       "use Rattle.aspif_lines.specs.Text.{textOf, pieces, sameBytes, lines, steppedLine, statement, token, number, digits, decimal, natural, signedToken, signed, atom, literal, more, opening, bodyCount, ruleLine, pair, minimiseLine, symbolLine, ofKind, fits, sum, insert, accepted, refused}",
        "",
        "-- ---- `plan.aspif`", "",
        "abbrev pub plan : List ℕ", "plan = " + lits(PLAN), "",
@@ -52,7 +61,7 @@ out = ["-- Texts of document 01 with the answers that it gives, each by computat
        "          ∷ record { head = constraint; body = normal (negsuc 0 ∷ negsuc 1 ∷ []) }",
        "          ∷ [];",
        "      priorities = pos 1 ∷ [];",
-       "      entries = record { priority = pos 1; literal = pos 1; weight = 2 } ∷ record { priority = pos 1; literal = pos 2; weight = 3 } ∷ [];",
+       "      entries = record { priority = pos 1; literal = pos 1; weight = pos 2 } ∷ record { priority = pos 1; literal = pos 2; weight = pos 3 } ∷ [];",
        "      symbols = record { name = 97 ∷ []; condition = pos 1 ∷ [] } ∷ record { name = 98 ∷ []; condition = pos 2 ∷ [] } ∷ [];",
        "    }", "",
        "pub plan-reads : textOf plan ≡ accepted planProgram plan", OPEN, "plan-reads = refl", "",
@@ -60,6 +69,8 @@ out = ["-- Texts of document 01 with the answers that it gives, each by computat
        "pub plan-remarked : textOf (" + lits(PLAN.replace(H, H + "10 x\n")) + ") ≡ accepted planProgram plan", OPEN, "plan-remarked = refl", "",
        "-- ---- priorities, highest first, each once", "",
        "pub levels-sorted : textOf (" + lits(H + "2 -3 0\n2 7 0\n2 0 0\n2 7 0\n0\n") + ") ≡ accepted (record { rules = []; priorities = pos 7 ∷ pos 0 ∷ negsuc 2 ∷ []; entries = []; symbols = [] }) (" + lits(H + "2 -3 0\n2 7 0\n2 0 0\n2 7 0\n0\n") + ")", OPEN, "levels-sorted = refl", "",
+       "-- ---- order 1: weights below zero, which write-out gives back", "",
+       "pub rewards-read : textOf (" + lits(REWARDS) + ") ≡ accepted (record { rules = []; priorities = pos 0 ∷ []; entries = " + REWARD_ENTRIES + "; symbols = [] }) (" + lits(REWARDS) + ")", OPEN, "rewards-read = refl", "",
        "-- ---- refusals, as one table", "",
        "pub record Case : Type 0 where", "  pub text : List ℕ", "  pub number : ℕ", "  pub line : ℕ", "",
        "abbrev pub cases : List Case", "cases ="]

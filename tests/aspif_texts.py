@@ -1,9 +1,9 @@
 #!/usr/bin/env python3
-"""Writes crates/aspif_texts/stdin and stdout: texts, and the answers that document 01 gives.
+"""Writes crates/aspif_texts/stdin and stdout: texts, and the answers that documents 01 and 02 (order 1) give.
 
-Each text stands here with its answer, taken from document 01: OK, or the number of the refusal and the line.
+Each text stands here with its answer, taken from those: OK, or the number of the refusal and the line.
 For an accepted text the answer also has figures of its program, from a reader in Python that was written from
-document 01 alone (tests/aspif_reader.py); it must agree with every answer that stands here.
+the documents alone (tests/aspif_reader.py); it must agree with every answer that stands here.
 
 A text in stdin is its length, as eight digits, and then its bytes. A line of stdout is the answer to it.
 """
@@ -29,7 +29,8 @@ def figures(p):
             hr = fold(hr, x)
     he = 7
     for q, z, w in p.entries:
-        he = fold(fold(fold(he, signed(q)), signed(z)), w % 60000)
+        for x in [signed(q), signed(z), int(w < 0), abs(w) // 1000, abs(w) % 1000]:
+            he = fold(he, x)
     hs = 7
     for name, c in p.symbols:
         for x in [len(name), len(c)] + list(name) + [signed(z) for z in c]:
@@ -115,15 +116,15 @@ for kind in ["3x", "01", "x", "-1", "-3", "+1", "1x", "11x", "\0", "a", "0" + bi
 places = [
     ("1 ", "0", " 0 0 0", False), ("1 ", "1", " 2 1 2 0 0", False), ("1 1 ", "2", " 1 2 0 0", False), ("1 0 ", "1", " 5 0 0", False), ("1 0 1 ", "5", " 0 0", False),
     ("1 1 2 5 ", "6", " 0 0", False), ("1 0 1 5 ", "0", " 1 2", False), ("1 0 1 5 0 ", "2", " 3 -4", False), ("1 0 1 5 0 2 ", "3", " -4", True), ("1 0 1 5 0 2 3 ", "4", "", True),
-    ("2 ", "7", " 1 3 4", True), ("2 -7 ", "1", " 3 4", False), ("2 7 1 ", "3", " 4", True), ("2 7 1 3 ", "4", "", False), ("2 7 2 3 4 ", "5", " 6", True), ("2 7 2 3 4 -5 ", "6", "", False),
+    ("2 ", "7", " 1 3 4", True), ("2 -7 ", "1", " 3 4", False), ("2 7 1 ", "3", " 4", True), ("2 7 1 3 ", "4", "", True), ("2 7 2 3 ", "4", " -5 6", True), ("2 7 2 3 4 ", "5", " 6", True), ("2 7 2 3 4 -5 ", "6", "", True), ("2 -7 2 -3 -4 -5 ", "-6", "", True),
     ("4 ", "3", " abc 1 2", False), ("4 3 abc ", "1", " 2", False), ("4 3 abc 1 ", "2", "", True), ("4 3 abc 2 2 ", "9", "", True),
 ]
 for before, right, after, minus in places:
     body(before + right + after + "\n", OK)
     for wrong in ["", "01", "00", "+1", "x", "1x", "-", "--1", "1-", "-0", "-01", "\0", "1\r", "\t1", "1.0", "0x1", "-x", "²", "0" + big, "-0" + big]:
         body(before + wrong + after + "\n", (2, 2))
+    body(before + "-1" + after + "\n", OK if minus else (2, 2))
     if not minus:
-        body(before + "-1" + after + "\n", (2, 2))
         body(before + "-" + big + after + "\n", (2, 2))
     for far in ["1000001", "4294967297", "18446744073709551617", big]:
         body(before + far + after + "\n", (4, 2))
@@ -149,6 +150,28 @@ for line, answer in [
     ("4 0  0", (4, 2)), ("4 1 a 0", OK), ("4 64 " + "n" * 64 + " 0", OK), ("4 65 " + "n" * 65 + " 0", (4, 2)), ("4 1 a 1025", (4, 2)), ("4 1 a 1024" + " 3" * 1024, OK), ("4 1 a 1 0", (4, 2)), ("4 1 a 1 -1024", OK), ("4 1 a 1 -1025", (4, 2)),
 ]:
     body(line + "\n", answer)
+
+# order 1: weights from -1,000,000 to 1,000,000, by form and then range; a minus in any other place is as before
+for w in ["0", "1", "-1", "9", "-9", "-10", "999999", "-999999", "1000000", "-1000000"]:
+    body(f"2 0 1 1 {w}\n", OK)
+    body(f"2 -5 3 1 {w} -2 {w} 1 {w.lstrip('-')}\n2 5 1 1 {w}\n", OK)
+for w in ["-0", "--1", "-", "-01", "-00", "+1", "+0", "- 1", "-1-", "1-", "-1x", "-x", "\xe2\x88\x921", "\xad1", "-\0", "-1.5", "-1e3", "-0" + "0" * 300, "-1000001x"]:
+    body(f"2 0 1 1 {w}\n", (2, 2))
+# a number that is out of range is so whatever it is in 32 or 64 bits
+for w in ["1000001", "2147483647", "2147483648", "4293967297", "4294967295", "4294967296", "4295967296", "18446744073708551616", "18446744073709551615", big]:
+    body(f"2 0 1 1 {w}\n", (4, 2))
+    body(f"2 0 1 1 -{w}\n", (4, 2))
+for line, answer in [
+    ("2 0 -1 1 5", (2, 2)), ("2 0 -0", (2, 2)), ("2 0 -1", (2, 2)), ("-2 0 1 1 -5", (2, 2)), ("2 -0 1 1 -5", (2, 2)), ("2 0 1 -0 -5", (2, 2)), ("2 0 1 0 -5", (4, 2)), ("2 0 1 -1 -5", OK),
+    ("2 0 1 1 -5 ", (2, 2)), ("2 0 1 1  -5", (2, 2)), ("2 0 1 1-5", (2, 2)), ("2 0 1 1 -5 2", (2, 2)), ("2 0 2 1 -5 2", (2, 2)), ("2 0 2 1 -5 -2 -1000001", (4, 2)), ("2 0 2 1 -1000001 -2 x", (4, 2)), ("2 0 2 1 -x -2 -1000001", (2, 2)),
+    ("4 -1 a 0", (2, 2)), ("4 1 a -1 2", (2, 2)), ("1 -1 0 0 0", (2, 2)), ("1 1 -1 1 0 0", (2, 2)), ("1 0 0 -0 0", (2, 2)), ("1 0 0 0 -1 1", (2, 2)), ("1 0 1 -1 0 0", (2, 2)),
+]:
+    body(line + "\n", answer)
+# one literal with both signs, and the same pair twice: each pair is an entry
+body("2 0 4 1 -5 1 5 1 -5 -1 -5\n", OK)
+body("2 0 512" + " 1 -1000000" * 512 + "\n", OK)
+body("2 0 513" + " 1 -1" * 513 + "\n", (5, 2))
+body("2 0 256" + " 1 -1" * 256 + "\n10 -1\n2 -1 256" + " -1 -1000000" * 256 + "\n4 2 -1 1 -1\n", OK)
 
 # the accepted part, after form and range
 for line, answer in [

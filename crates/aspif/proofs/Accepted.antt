@@ -1,4 +1,4 @@
--- Every program that a text is accepted with has atoms from 1 to 1,024, weights to 1,000,000 and its priorities in order, and fits its tables. Assumes nothing.
+-- Every program that a text is accepted with has atoms from 1 to 1,024, weights from -1,000,000 to 1,000,000 and its priorities in order, and fits its tables. Assumes nothing.
 use mathlib.Core.Path.{_≡_, refl}
 use mathlib.Core.Bool.{Bool, true, false}
 use mathlib.Core.List.{List, [], _∷_, _++_, map}
@@ -117,13 +117,13 @@ rule-reads l =
 
 -- an entry of a literal and a weight in their ranges
 abbrev EntryIn : Entry → Type 0
-EntryIn e = LiteralIn 1024 (e .literal) × (e .weight ≤ 1000000)
+EntryIn e = LiteralIn 1024 (e .literal) × (natAbs (e .weight) ≤ 1000000)
 
 pair-reads : (p : ℤ) (l : List ℕ) → Reads EntryIn (pair p l)
 unfolding pair
 pair-reads p l =
     reads-bind (LiteralIn 1024) EntryIn (literal l) _ (literal-reads l) (λ z l h.
-    reads-bind (Range 0 1000000) EntryIn (natural 0 1000000 l) _ (natural-reads 0 1000000 l) (λ w l r. (h, r .1)))
+    reads-bind (Small 1000000) EntryIn (field (signed 1000000) l) _ (field-reads (Small 1000000) (signed 1000000) l (signed-reads 1000000)) (λ w l r. (h, r)))
 
 abbrev MinimiseIn : Minimise → Type 0
 MinimiseIn m = All EntryIn (m .entries)
@@ -172,14 +172,14 @@ statement-reads l = reads-bind Any StatementIn (number 0 10 l) ofKind (any (numb
 
 pub record Fine (p : Program) : Type 0 where
   pub atoms : ProgramIn 1024 p
-  pub weights : All (λ (e : Entry). e .weight ≤ 1000000) (p .entries)
+  pub weights : All (λ (e : Entry). natAbs (e .weight) ≤ 1000000) (p .entries)
   pub down : Descending (p .priorities)
 
 all-literals : (es : List Entry) → All EntryIn es → All (λ (e : Entry). LiteralIn 1024 (e .literal)) es
 all-literals [] a = tt
 all-literals (e ∷ es) a = (a .0 .0, all-literals es (a .1))
 
-all-weights : (es : List Entry) → All EntryIn es → All (λ (e : Entry). e .weight ≤ 1000000) es
+all-weights : (es : List Entry) → All EntryIn es → All (λ (e : Entry). natAbs (e .weight) ≤ 1000000) es
 all-weights [] a = tt
 all-weights (e ∷ es) a = (a .0 .1, all-weights es (a .1))
 
@@ -189,7 +189,7 @@ fine-add l (rule r) p s f =
 fine-add l (minimise q es) p s f =
     record {
       atoms = record { rules = f .atoms .rules; entries = all-append (λ (e : Entry). LiteralIn 1024 (e .literal)) (p .program .entries) es (f .atoms .entries) (all-literals es s); symbols = f .atoms .symbols };
-      weights = all-append (λ (e : Entry). e .weight ≤ 1000000) (p .program .entries) es (f .weights) (all-weights es s);
+      weights = all-append (λ (e : Entry). natAbs (e .weight) ≤ 1000000) (p .program .entries) es (f .weights) (all-weights es s);
       down = descending-insert q (p .program .priorities) (f .down);
     }
 fine-add l (symbol s) p h f =

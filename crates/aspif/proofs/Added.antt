@@ -159,8 +159,8 @@ unfolding span highest
 highest-span f g f′ g′ i zero h = refl
 highest-span f g f′ g′ i (suc k) h = rw (h i, highest-span f g f′ g′ (i + 1) k h)
 
-module _ (ps ps′ ls ls′ : List ℤ) (ws ws′ : List ℕ) (levels levels′ : List ℤ) (n : Counts) (k d t : ℕ) (q : ℤ) (l : List ℕ)
-    (f : Kept (pos 0) (n .entries) ps ps′) (g : Kept (pos 0) (n .entries) ls ls′) (h : Kept 0 (n .entries) ws ws′) where
+module _ (ps ps′ ls ls′ ws ws′ levels levels′ : List ℤ) (n : Counts) (k d t : ℕ) (q : ℤ) (l : List ℕ)
+    (f : Kept (pos 0) (n .entries) ps ps′) (g : Kept (pos 0) (n .entries) ls ls′) (h : Kept (pos 0) (n .entries) ws ws′) where
   entries-grow : entriesOf ps′ ls′ ws′ (n .entries + k) ≡ entriesOf ps ls ws (n .entries) ++ entriesAt ps′ ls′ ws′ (n .entries) k
   entries-grow =
       let z : 0 + n .entries ≡ n .entries = omega arith in

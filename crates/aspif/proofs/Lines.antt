@@ -104,7 +104,7 @@ module _ (s : List ℕ) (t : Lists) (n : Counts) (text′ : List ℕ) (end : ℕ
       rule-leads (turn.Goes m) e = rule-goes m e
 
     -- ---- minimise lines
-    module _ (ps′ ls′ : List ℤ) (ws′ : List ℕ) (levels′ : List ℤ) (two : kind ≡ 2) where
+    module _ (ps′ ls′ ws′ levels′ : List ℤ) (two : kind ≡ 2) where
       abbrev minimised : Lists
       minimised = lists text′ (t .pool) (t .rules) ps′ ls′ ws′ levels′ (t .conditions) (t .symbols)
 

@@ -1,4 +1,4 @@
--- Texts of document 01 with the answers that it gives, each by computation. Written by tests/aspif_samples.py. Assumes nothing.
+-- Texts of document 01 and order 1 with the answers that they give, each by computation. Written by tests/aspif_samples.py. Assumes nothing.
 use mathlib.Core.Path.{_≡_, refl}
 use mathlib.Core.List.{List, [], _∷_, map}
 use Prim.Native.Nat.{ℕ}
@@ -20,7 +20,7 @@ planProgram =
           ∷ record { head = constraint; body = normal (negsuc 0 ∷ negsuc 1 ∷ []) }
           ∷ [];
       priorities = pos 1 ∷ [];
-      entries = record { priority = pos 1; literal = pos 1; weight = 2 } ∷ record { priority = pos 1; literal = pos 2; weight = 3 } ∷ [];
+      entries = record { priority = pos 1; literal = pos 1; weight = pos 2 } ∷ record { priority = pos 1; literal = pos 2; weight = pos 3 } ∷ [];
       symbols = record { name = 97 ∷ []; condition = pos 1 ∷ [] } ∷ record { name = 98 ∷ []; condition = pos 2 ∷ [] } ∷ [];
     }
 
@@ -39,6 +39,12 @@ plan-remarked = refl
 pub levels-sorted : textOf (97 ∷ 115 ∷ 112 ∷ 32 ∷ 49 ∷ 32 ∷ 48 ∷ 32 ∷ 48 ∷ 10 ∷ 50 ∷ 32 ∷ 45 ∷ 51 ∷ 32 ∷ 48 ∷ 10 ∷ 50 ∷ 32 ∷ 55 ∷ 32 ∷ 48 ∷ 10 ∷ 50 ∷ 32 ∷ 48 ∷ 32 ∷ 48 ∷ 10 ∷ 50 ∷ 32 ∷ 55 ∷ 32 ∷ 48 ∷ 10 ∷ 48 ∷ 10 ∷ []) ≡ accepted (record { rules = []; priorities = pos 7 ∷ pos 0 ∷ negsuc 2 ∷ []; entries = []; symbols = [] }) (97 ∷ 115 ∷ 112 ∷ 32 ∷ 49 ∷ 32 ∷ 48 ∷ 32 ∷ 48 ∷ 10 ∷ 50 ∷ 32 ∷ 45 ∷ 51 ∷ 32 ∷ 48 ∷ 10 ∷ 50 ∷ 32 ∷ 55 ∷ 32 ∷ 48 ∷ 10 ∷ 50 ∷ 32 ∷ 48 ∷ 32 ∷ 48 ∷ 10 ∷ 50 ∷ 32 ∷ 55 ∷ 32 ∷ 48 ∷ 10 ∷ 48 ∷ 10 ∷ [])
 unfolding textOf pieces sameBytes lines steppedLine statement token number digits decimal natural signedToken signed atom literal more opening bodyCount ruleLine pair minimiseLine symbolLine ofKind fits sum insert
 levels-sorted = refl
+
+-- ---- order 1: weights below zero, which write-out gives back
+
+pub rewards-read : textOf (97 ∷ 115 ∷ 112 ∷ 32 ∷ 49 ∷ 32 ∷ 48 ∷ 32 ∷ 48 ∷ 10 ∷ 50 ∷ 32 ∷ 48 ∷ 32 ∷ 53 ∷ 32 ∷ 49 ∷ 32 ∷ 45 ∷ 49 ∷ 48 ∷ 48 ∷ 48 ∷ 48 ∷ 48 ∷ 48 ∷ 32 ∷ 45 ∷ 50 ∷ 32 ∷ 49 ∷ 48 ∷ 48 ∷ 48 ∷ 48 ∷ 48 ∷ 48 ∷ 32 ∷ 49 ∷ 32 ∷ 45 ∷ 49 ∷ 32 ∷ 49 ∷ 32 ∷ 49 ∷ 32 ∷ 51 ∷ 32 ∷ 48 ∷ 10 ∷ 48 ∷ 10 ∷ []) ≡ accepted (record { rules = []; priorities = pos 0 ∷ []; entries = record { priority = pos 0; literal = pos 1; weight = negsuc 999999 } ∷ record { priority = pos 0; literal = negsuc 1; weight = pos 1000000 } ∷ record { priority = pos 0; literal = pos 1; weight = negsuc 0 } ∷ record { priority = pos 0; literal = pos 1; weight = pos 1 } ∷ record { priority = pos 0; literal = pos 3; weight = pos 0 } ∷ []; symbols = [] }) (97 ∷ 115 ∷ 112 ∷ 32 ∷ 49 ∷ 32 ∷ 48 ∷ 32 ∷ 48 ∷ 10 ∷ 50 ∷ 32 ∷ 48 ∷ 32 ∷ 53 ∷ 32 ∷ 49 ∷ 32 ∷ 45 ∷ 49 ∷ 48 ∷ 48 ∷ 48 ∷ 48 ∷ 48 ∷ 48 ∷ 32 ∷ 45 ∷ 50 ∷ 32 ∷ 49 ∷ 48 ∷ 48 ∷ 48 ∷ 48 ∷ 48 ∷ 48 ∷ 32 ∷ 49 ∷ 32 ∷ 45 ∷ 49 ∷ 32 ∷ 49 ∷ 32 ∷ 49 ∷ 32 ∷ 51 ∷ 32 ∷ 48 ∷ 10 ∷ 48 ∷ 10 ∷ [])
+unfolding textOf pieces sameBytes lines steppedLine statement token number digits decimal natural signedToken signed atom literal more opening bodyCount ruleLine pair minimiseLine symbolLine ofKind fits sum insert
+rewards-read = refl
 
 -- ---- refusals, as one table
 
@@ -89,6 +95,16 @@ cases =
     record { text = 97 ∷ 115 ∷ 112 ∷ 32 ∷ 49 ∷ 32 ∷ 48 ∷ 32 ∷ 48 ∷ 10 ∷ 50 ∷ 32 ∷ 45 ∷ 49 ∷ 48 ∷ 48 ∷ 49 ∷ 32 ∷ 48 ∷ 10 ∷ 48 ∷ 10 ∷ []; number = 4; line = 2 } ∷
     -- weight 1,000,001
     record { text = 97 ∷ 115 ∷ 112 ∷ 32 ∷ 49 ∷ 32 ∷ 48 ∷ 32 ∷ 48 ∷ 10 ∷ 50 ∷ 32 ∷ 48 ∷ 32 ∷ 49 ∷ 32 ∷ 49 ∷ 32 ∷ 49 ∷ 48 ∷ 48 ∷ 48 ∷ 48 ∷ 48 ∷ 49 ∷ 10 ∷ 48 ∷ 10 ∷ []; number = 4; line = 2 } ∷
+    -- weight -1,000,001
+    record { text = 97 ∷ 115 ∷ 112 ∷ 32 ∷ 49 ∷ 32 ∷ 48 ∷ 32 ∷ 48 ∷ 10 ∷ 50 ∷ 32 ∷ 48 ∷ 32 ∷ 49 ∷ 32 ∷ 49 ∷ 32 ∷ 45 ∷ 49 ∷ 48 ∷ 48 ∷ 48 ∷ 48 ∷ 48 ∷ 49 ∷ 10 ∷ 48 ∷ 10 ∷ []; number = 4; line = 2 } ∷
+    -- weight -0
+    record { text = 97 ∷ 115 ∷ 112 ∷ 32 ∷ 49 ∷ 32 ∷ 48 ∷ 32 ∷ 48 ∷ 10 ∷ 50 ∷ 32 ∷ 48 ∷ 32 ∷ 49 ∷ 32 ∷ 49 ∷ 32 ∷ 45 ∷ 48 ∷ 10 ∷ 48 ∷ 10 ∷ []; number = 2; line = 2 } ∷
+    -- weight -01
+    record { text = 97 ∷ 115 ∷ 112 ∷ 32 ∷ 49 ∷ 32 ∷ 48 ∷ 32 ∷ 48 ∷ 10 ∷ 50 ∷ 32 ∷ 48 ∷ 32 ∷ 49 ∷ 32 ∷ 49 ∷ 32 ∷ 45 ∷ 48 ∷ 49 ∷ 10 ∷ 48 ∷ 10 ∷ []; number = 2; line = 2 } ∷
+    -- a minus and no weight
+    record { text = 97 ∷ 115 ∷ 112 ∷ 32 ∷ 49 ∷ 32 ∷ 48 ∷ 32 ∷ 48 ∷ 10 ∷ 50 ∷ 32 ∷ 48 ∷ 32 ∷ 49 ∷ 32 ∷ 49 ∷ 32 ∷ 45 ∷ 10 ∷ 48 ∷ 10 ∷ []; number = 2; line = 2 } ∷
+    -- a count of pairs with a minus
+    record { text = 97 ∷ 115 ∷ 112 ∷ 32 ∷ 49 ∷ 32 ∷ 48 ∷ 32 ∷ 48 ∷ 10 ∷ 50 ∷ 32 ∷ 48 ∷ 32 ∷ 45 ∷ 49 ∷ 32 ∷ 49 ∷ 32 ∷ 53 ∷ 10 ∷ 48 ∷ 10 ∷ []; number = 2; line = 2 } ∷
     -- a name byte 127
     record { text = 97 ∷ 115 ∷ 112 ∷ 32 ∷ 49 ∷ 32 ∷ 48 ∷ 32 ∷ 48 ∷ 10 ∷ 52 ∷ 32 ∷ 49 ∷ 32 ∷ 127 ∷ 32 ∷ 48 ∷ 10 ∷ 48 ∷ 10 ∷ []; number = 2; line = 2 } ∷
     -- a 65-byte name is 4

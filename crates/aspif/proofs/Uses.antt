@@ -32,8 +32,8 @@ pub text-part : (p : Stored) → WellFormed p → storedText p ≡ take (p .coun
 text-part p w = bytes-part (p .text) 0 (p .counts .text) (omega (arith, w .text, w .sized .text))
 
 -- the literal of entry j has an atom of 1 to n, and its weight is in its range
-pub entry-in : (p : Stored) → WellFormed p → (j : ℕ) → j < p .counts .entries → In (p .counts .atoms) (natAbs (getD (p .literals) j (pos 0))) × (getD (p .weights) j 0 ≤ 1000000)
+pub entry-in : (p : Stored) → WellFormed p → (j : ℕ) → j < p .counts .entries → In (p .counts .atoms) (natAbs (getD (p .literals) j (pos 0))) × (natAbs (getD (p .weights) j (pos 0)) ≤ 1000000)
 entry-in p w j h =
     let z : 0 + j ≡ j = omega arith in
     let f = entryAt (p .priorities) (p .literals) (p .weights) in
-    (rw z at (all-span (λ (e : Entry). LiteralIn (p .counts .atoms) (e .literal)) f 0 (p .counts .entries) (w .named .entries) j h), rw z at (all-span (λ (e : Entry). e .weight ≤ 1000000) f 0 (p .counts .entries) (w .weights) j h))
+    (rw z at (all-span (λ (e : Entry). LiteralIn (p .counts .atoms) (e .literal)) f 0 (p .counts .entries) (w .named .entries) j h), rw z at (all-span (λ (e : Entry). natAbs (e .weight) ≤ 1000000) f 0 (p .counts .entries) (w .weights) j h))

@@ -3,7 +3,7 @@ use mathlib.Core.Path.{_≡_, refl, sym, ap, _∙_, subst}
 use mathlib.Core.List.{List, [], _∷_, _++_, map, append-assoc}
 use Prim.Native.Nat.{ℕ, suc, _+_, _-_, _*_, _≤_, _<_}
 use native.Mathlib.Omega.{arith}
-use lib.IntN.{ℤ, pos}
+use lib.IntN.{ℤ, pos, natAbs}
 use lib.ListN.{length, getD, replicate, length-append, length-replicate}
 use lib.Seq.{getD-append-add}
 use Rattle.asp.specs.Program.{Body, normal, Head, constraint, plain, choice, Rule, Entry, Symbol, Program, atoms, All, RuleIn, ProgramIn}
@@ -46,7 +46,7 @@ list-at d xs ys zs =
     (λ j l. let q : 0 + j ≡ j = omega arith in rw q (getD-append-add xs (ys ++ zs) j d)) ∙ list-front d ys zs
 
 -- the fields of entries, in three tables
-entries-front : (es : List Entry) (ps ls : List ℤ) (ws : List ℕ)
+entries-front : (es : List Entry) (ps ls ws : List ℤ)
     → entriesOf (map (λ (e : Entry). e .priority) es ++ ps) (map (λ (e : Entry). e .literal) es ++ ls) (map (λ (e : Entry). e .weight) es ++ ws) (length es) ≡ es
 entries-front es ps ls ws =
     fronts (λ es j. entryAt (map (λ (e : Entry). e .priority) es ++ ps) (map (λ (e : Entry). e .literal) es ++ ls) (map (λ (e : Entry). e .weight) es ++ ws) j)
@@ -257,7 +257,7 @@ module _ (P : Program) (w : List ℕ) (good : Good P) (short : length w ≤ 6553
         rules = table (RuleIn 1024) ruleLaid ruleRow 8196 (P .rules) atoms-in;
         priorities = padded (pos 0) 1536 (map (λ (e : Entry). e .priority) (P .entries));
         literals = padded (pos 0) 1536 (map (λ (e : Entry). e .literal) (P .entries));
-        weights = padded 0 1536 (map (λ (e : Entry). e .weight) (P .entries));
+        weights = padded (pos 0) 1536 (map (λ (e : Entry). e .weight) (P .entries));
         levels = padded (pos 0) 9 (P .priorities);
         conditions = padded (pos 0) 3072 (laid conditionLaid (P .symbols));
         symbols = table (NameLies w) conditionLaid (symbolRow w) 2052 (P .symbols) names;
@@ -303,7 +303,7 @@ module _ (P : Program) (w : List ℕ) (good : Good P) (short : length w ≤ 6553
         rules = table-length (RuleIn 1024) ruleLaid ruleRow 8196 (P .rules) atoms-in (omega (arith, within .rules));
         priorities = entry-table (pos 0) (λ (e : Entry). e .priority);
         literals = entry-table (pos 0) (λ (e : Entry). e .literal);
-        weights = entry-table 0 (λ (e : Entry). e .weight);
+        weights = entry-table (pos 0) (λ (e : Entry). e .weight);
         levels = padded-length (pos 0) 9 (P .priorities) (omega (arith, within .levels));
         conditions = padded-length (pos 0) 3072 (laid conditionLaid (P .symbols)) (omega (arith, conditions-used, within .conditions));
         symbols = table-length (NameLies w) conditionLaid (symbolRow w) 2052 (P .symbols) names (omega (arith, within .symbols));
@@ -333,7 +333,7 @@ module _ (P : Program) (w : List ℕ) (good : Good P) (short : length w ≤ 6553
         atoms = ap atoms (sym witness-program);
         formed = record { few = atoms-bound P (good .fine .atoms); long = omega (arith, within .rules, sized .rules); row = row-in; atoms = named-in .rules };
         named = named-in;
-        weights = subst (λ (q : Program). All (λ (e : Entry). e .weight ≤ 1000000) (q .entries)) (sym witness-program) (good .fine .weights);
+        weights = subst (λ (q : Program). All (λ (e : Entry). natAbs (e .weight) ≤ 1000000) (q .entries)) (sym witness-program) (good .fine .weights);
         levels = subst (λ (q : Program). Descending (q .priorities)) (sym witness-program) (good .fine .down);
         symbols = symbol-in;
       }

@@ -83,7 +83,7 @@ abbrev pub minimiseCounts : Counts → ℕ → ℕ → ℕ → ℕ → Counts
 minimiseCounts n entries levels top end =
     record { rules = n .rules; used = n .used; entries = entries; levels = levels; symbols = n .symbols; conditions = n .conditions; names = n .names; text = end; atoms = top }
 
-pub record MinimiseAdded (ps ls : List ℤ) (ws : List ℕ) (levels ps′ ls′ : List ℤ) (ws′ : List ℕ) (levels′ : List ℤ) (n : Counts) (end : ℕ) (l : List ℕ) (m : Counts) : Type 0 where
+pub record MinimiseAdded (ps ls ws levels ps′ ls′ ws′ levels′ : List ℤ) (n : Counts) (end : ℕ) (l : List ℕ) (m : Counts) : Type 0 where
   pub read : Minimise
   pub line : minimiseLine l ≡ got read []
   pub grown : entriesOf ps′ ls′ ws′ (m .entries) ≡ entriesOf ps ls ws (n .entries) ++ read .entries
@@ -95,7 +95,7 @@ pub record MinimiseAdded (ps ls : List ℤ) (ws : List ℕ) (levels ps′ ls′ 
   pub longWeights : length ws′ ≡ length ws
   pub longLevels : length levels′ ≡ length levels
 
-abbrev pub AddedMinimise : List ℤ → List ℤ → List ℕ → List ℤ → List ℤ → List ℤ → List ℕ → List ℤ → Counts → ℕ → List ℕ → LineTurn → Type 0
+abbrev pub AddedMinimise : List ℤ → List ℤ → List ℤ → List ℤ → List ℤ → List ℤ → List ℤ → List ℤ → Counts → ℕ → List ℕ → LineTurn → Type 0
 AddedMinimise ps ls ws levels ps′ ls′ ws′ levels′ n end l (turn.Refused c) = minimiseLine l ≡ bad c
 AddedMinimise ps ls ws levels ps′ ls′ ws′ levels′ n end l (turn.Last m) = ⊥
 AddedMinimise ps ls ws levels ps′ ls′ ws′ levels′ n end l (turn.Goes m) = MinimiseAdded ps ls ws levels ps′ ls′ ws′ levels′ n end l m
@@ -135,12 +135,12 @@ pub record Lists : Type 0 where
   pub rules : List ℕ
   pub priorities : List ℤ
   pub literals : List ℤ
-  pub weights : List ℕ
+  pub weights : List ℤ
   pub levels : List ℤ
   pub conditions : List ℤ
   pub symbols : List ℕ
 
-abbrev pub lists : List ℕ → List ℤ → List ℕ → List ℤ → List ℤ → List ℕ → List ℤ → List ℤ → List ℕ → Lists
+abbrev pub lists : List ℕ → List ℤ → List ℕ → List ℤ → List ℤ → List ℤ → List ℤ → List ℤ → List ℕ → Lists
 lists text pool rules priorities literals weights levels conditions symbols =
     record { text = text; pool = pool; rules = rules; priorities = priorities; literals = literals; weights = weights; levels = levels; conditions = conditions; symbols = symbols }
 
@@ -266,7 +266,8 @@ pub record WellFormed (p : Stored) : Type 0 where
   pub atoms : p .counts .atoms ≡ atoms (storedProgram p)
   pub formed : Formed (p .counts .atoms) (p .pool) (p .rules) (p .counts .rules)
   pub named : ProgramIn (p .counts .atoms) (storedProgram p)
-  pub weights : All (λ (e : Entry). e .weight ≤ 1000000) (storedProgram p .entries)
+  -- order 1: "Weights now run from -1,000,000 to 1,000,000"
+  pub weights : All (λ (e : Entry). natAbs (e .weight) ≤ 1000000) (storedProgram p .entries)
   pub levels : Descending (storedProgram p .priorities)
   pub symbols : (j : ℕ) → j < p .counts .symbols → (rowAt (p .symbols) j .a + rowAt (p .symbols) j .b ≤ p .counts .text) × (rowAt (p .symbols) j .c + rowAt (p .symbols) j .d ≤ p .counts .conditions)
 

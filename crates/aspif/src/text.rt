@@ -312,7 +312,7 @@ pub fn load(s: &[u8]) -> Loaded
     let mut rules = [0u16; RULE_ROOM];
     let mut priorities = [0i32; ENTRY_ROOM];
     let mut literals = [0i32; ENTRY_ROOM];
-    let mut weights = [0u32; ENTRY_ROOM];
+    let mut weights = [0i32; ENTRY_ROOM];
     let mut levels = [0i32; LEVEL_ROOM];
     let mut conditions = [0i32; CONDITION_ROOM];
     let mut symbols = [0u16; SYMBOL_ROOM];

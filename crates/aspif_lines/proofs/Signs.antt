@@ -1,11 +1,16 @@
--- Literals and priorities: in a goal one stands as `toZ w32 (ofZ w32 z)`, its bits read back. Assumes nothing.
+-- Literals, priorities and weights: in a goal one stands as `toZ w32 (ofZ w32 z)`, its bits read back. Assumes nothing.
 use mathlib.Core.Path.{_≡_}
 use Prim.Native.Nat.{_≤_}
-use lib.IntN.{ℤ, natAbs}
+use native.Mathlib.Omega.{arith}
+use lib.IntN.{ℤ, pos, negsuc, natAbs}
 use mir.Syntax.{w32}
-use mir.Val.{toZ, ofZ}
+use mir.Val.{SFits, toZ, ofZ}
 use mir.Facts.{toZ-ofZ}
-use Rattle.asp.proofs.Signed.{small-fits}
 
-pub back : (z : ℤ) → natAbs z ≤ 1024 → toZ w32 (ofZ w32 z) ≡ z
-back z h = toZ-ofZ (small-fits z h)
+-- no signed number of a text is beyond 1,000,000
+pub signed-fits : (z : ℤ) → natAbs z ≤ 1000000 → SFits w32 z
+signed-fits (pos n) h = record { sfits = omega arith }
+signed-fits (negsuc n) h = record { sfits = omega arith }
+
+pub back : (z : ℤ) → natAbs z ≤ 1000000 → toZ w32 (ofZ w32 z) ≡ z
+back z h = toZ-ofZ (signed-fits z h)

@@ -76,15 +76,15 @@ module _ {A : Type 0} (f : List ℕ → Read A) (k i : ℕ) (xs : List A) (l : L
   more-done h = let s : k - i ≡ 0 = omega arith in rw s
 
 -- one more entry
-pub entries-push : (ps ls : List ℤ) (ws : List ℕ) (i k : ℕ) (p z : ℤ) (w : ℕ) → i + k < length ps → i + k < length ls → i + k < length ws
+pub entries-push : (ps ls ws : List ℤ) (i k : ℕ) (p z w : ℤ) → i + k < length ps → i + k < length ls → i + k < length ws
     → entriesAt (set ps (i + k) p) (set ls (i + k) z) (set ws (i + k) w) i (k + 1) ≡ entriesAt ps ls ws i k ++ (record { priority = p; literal = z; weight = w } ∷ [])
 entries-push ps ls ws i k p z w f g h =
     rw (
       span-snoc (entryAt (set ps (i + k) p) (set ls (i + k) z) (set ws (i + k) w)) i k,
       getD-set-same ps (i + k) p (pos 0) f,
       getD-set-same ls (i + k) z (pos 0) g,
-      getD-set-same ws (i + k) w 0 h,
-      span-same (entryAt (set ps (i + k) p) (set ls (i + k) z) (set ws (i + k) w)) (entryAt ps ls ws) i k (λ j l. rw (getD-set-other ps (i + k) j p (pos 0) (omega arith), getD-set-other ls (i + k) j z (pos 0) (omega arith), getD-set-other ws (i + k) j w 0 (omega arith))),
+      getD-set-same ws (i + k) w (pos 0) h,
+      span-same (entryAt (set ps (i + k) p) (set ls (i + k) z) (set ws (i + k) w)) (entryAt ps ls ws) i k (λ j l. rw (getD-set-other ps (i + k) j p (pos 0) (omega arith), getD-set-other ls (i + k) j z (pos 0) (omega arith), getD-set-other ws (i + k) j w (pos 0) (omega arith))),
     )
 
 pub bytesAt-push : (s : List ℕ) (i k : ℕ) → bytesAt s i (k + 1) ≡ bytesAt s i k ++ (getD s (i + k) 0 ∷ [])

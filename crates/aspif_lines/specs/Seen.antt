@@ -129,17 +129,17 @@ seenPair s p (pair.Paired z w n) = got (record { priority = p; literal = z; weig
 seenPair s p (pair.Refused c) = bad c
 
 abbrev pub PairSmall : Pair → Type 0
-PairSmall (pair.Paired z w n) = (natAbs z ≤ 1024) × (w ≤ 1000000)
+PairSmall (pair.Paired z w n) = (natAbs z ≤ 1024) × (natAbs w ≤ 1000000)
 PairSmall (pair.Refused c) = Unit {0}
 
-abbrev pub entriesAt : List ℤ → List ℤ → List ℕ → ℕ → ℕ → List Entry
+abbrev pub entriesAt : List ℤ → List ℤ → List ℤ → ℕ → ℕ → List Entry
 entriesAt ps ls ws i k = span (entryAt ps ls ws) i k
 
-abbrev pub seenEntries : List ℕ → List ℤ → List ℤ → List ℕ → ℕ → ℕ → Listed → Read (List Entry)
+abbrev pub seenEntries : List ℕ → List ℤ → List ℤ → List ℤ → ℕ → ℕ → Listed → Read (List Entry)
 seenEntries s ps ls ws i k (listed.Upto n t) = got (entriesAt ps ls ws i k) (drop n s)
 seenEntries s ps ls ws i k (listed.Refused c) = bad c
 
-abbrev pub seenMinimise : List ℤ → List ℤ → List ℕ → ℕ → MinimiseLine → Read Minimise
+abbrev pub seenMinimise : List ℤ → List ℤ → List ℤ → ℕ → MinimiseLine → Read Minimise
 seenMinimise ps ls ws i (minimiseLine.Minimised p k t) = got (record { priority = p; entries = entriesAt ps ls ws i k }) []
 seenMinimise ps ls ws i (minimiseLine.Refused c) = bad c
 

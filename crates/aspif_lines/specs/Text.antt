@@ -153,9 +153,9 @@ ruleLine l =
 
 -- ---- `2 p k` and k pairs of literal and weight: minimise at priority p
 
--- "Each pair is an entry"; "weight 0 to 1,000,000"
+-- "Each pair is an entry"; order 1: "Weights now run from -1,000,000 to 1,000,000 and may have a minus."
 unfoldable pub pair : ℤ → List ℕ → Read Entry
-pair p l = bind (literal l) (λ z l. bind (natural 0 1000000 l) (λ w l. got (record { priority = p; literal = z; weight = w }) l))
+pair p l = bind (literal l) (λ z l. bind (field (signed 1000000) l) (λ w l. got (record { priority = p; literal = z; weight = w }) l))
 
 pub record Minimise : Type 0 where
   pub priority : ℤ

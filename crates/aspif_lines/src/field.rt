@@ -5,7 +5,6 @@ use super::token::read_field_token;
 use super::token::read_signed_token;
 use super::token::read_token;
 use asp::literal::atom;
-use asp::literal::negative;
 use asp::literal::positive;
 ghost use mathlib.Core.List.{List, []};
 ghost use mathlib.Core.Path.{_≡_};
@@ -93,21 +92,18 @@ pub fn read_natural(s: &[u8], at: usize, lo: u32, hi: u32) -> Number
     in_range(value, next, lo, hi)
 }
 
-// A literal or a priority, by its sign.
+// A literal, a priority or a weight, by its sign.
 fn with_sign(minus: bool, v: u32) -> i32
-    requires { ⌜ v ≤ 1024 ⌝ }
+    requires { ⌜ v ≤ 1000000 ⌝ }
     ensures { λ r. ⌜ r ≡ withSign minus v ⌝ }
 {
-    if minus {
-        negative(size(v))
-    } else {
-        positive(size(v))
-    }
+    let z = v as i32;
+    if minus { -z } else { z }
 }
 
 // A space, and a number that may have a minus, from -hi to hi.
 pub fn read_signed(s: &[u8], at: usize, hi: u32) -> Signed
-    requires { ⌜ hi ≤ 1024 ⌝ }
+    requires { ⌜ hi ≤ 1000000 ⌝ }
     ensures { λ r. ⌜ (seenSigned (now (s .entry)) r ≡ field (signed hi) (drop at (now (s .entry)))) × Small hi r ⌝ }
 {
     let SignedToken::Digits { minus, value, next } = read_signed_token(s, at) else {

@@ -22,13 +22,13 @@ ghost use Rattle.aspif_lines.specs.Seen.{refusal, seenPair, PairSmall, s
 
 const MOST_PRIORITY: u32 = 1000; // document 01: "p from -1,000 to 1,000 (signed)"
 
-const MOST_WEIGHT: u32 = 1000000; // "weight 0 to 1,000,000"
+const MOST_WEIGHT: u32 = 1000000; // order 1: "Weights now run from -1,000,000 to 1,000,000 and may have a minus."
 
 // A literal and its weight.
 pub enum Pair {
     Paired {
         literal: i32,
-        weight: u32,
+        weight: i32,
         next: usize,
     },
     Refused {
@@ -55,8 +55,8 @@ fn read_pair(s: &[u8], at: usize) -> Pair
     let Signed::Whole { value: z, next: a } = l else {
         return Pair::Refused { code: l.code() };
     };
-    let n = read_natural(s, a, 0, MOST_WEIGHT);
-    let Number::Value { value: w, next } = n else {
+    let n = read_signed(s, a, MOST_WEIGHT);
+    let Signed::Whole { value: w, next } = n else {
         return Pair::Refused { code: n.code() };
     };
     Pair::Paired {
@@ -74,12 +74,12 @@ fn read_pairs(
     k: usize,
     priorities: &mut [i32],
     literals: &mut [i32],
-    weights: &mut [u32],
+    weights: &mut [i32],
     used: usize,
     start: usize,
 ) -> Listed
     requires { ⌜ (used + k ≤ length (now priorities)) × (used + k ≤ length (now literals)) × (used + k ≤ length (now weights)) × (natAbs p ≤ 1000) ⌝ }
-    ensures { λ r. ⌜ (seenEntries (now (s .entry)) (now (priorities .exit)) (now (literals .exit)) (now (weights .exit)) used k r ≡ more (pair p) k [] (drop at (now (s .entry)))) × TopOf (now (literals .exit)) used k start r × Kept (pos 0) used (now (priorities .entry)) (now (priorities .exit)) × Kept (pos 0) used (now (literals .entry)) (now (literals .exit)) × Kept 0 used (now (weights .entry)) (now (weights .exit)) ⌝ }
+    ensures { λ r. ⌜ (seenEntries (now (s .entry)) (now (priorities .exit)) (now (literals .exit)) (now (weights .exit)) used k r ≡ more (pair p) k [] (drop at (now (s .entry)))) × TopOf (now (literals .exit)) used k start r × Kept (pos 0) used (now (priorities .entry)) (now (priorities .exit)) × Kept (pos 0) used (now (literals .entry)) (now (literals .exit)) × Kept (pos 0) used (now (weights .entry)) (now (weights .exit)) ⌝ }
 {
     let mut a = at;
     let mut top = start;
@@ -127,7 +127,7 @@ pub fn read_minimise(
     top: usize,
 ) -> MinimiseLine
     requires { ⌜ (used + 1024 ≤ length (now priorities)) × (used + 1024 ≤ length (now literals)) × (used + 1024 ≤ length (now weights)) ⌝ }
-    ensures { λ r. ⌜ (seenMinimise (now (priorities .exit)) (now (literals .exit)) (now (weights .exit)) used r ≡ minimiseLine (drop at (now (s .entry)))) × MinimiseSmall r × MinimiseTop (now (literals .exit)) used top r × Kept (pos 0) used (now (priorities .entry)) (now (priorities .exit)) × Kept (pos 0) used (now (literals .entry)) (now (literals .exit)) × Kept 0 used (now (weights .entry)) (now (weights .exit)) ⌝ }
+    ensures { λ r. ⌜ (seenMinimise (now (priorities .exit)) (now (literals .exit)) (now (weights .exit)) used r ≡ minimiseLine (drop at (now (s .entry)))) × MinimiseSmall r × MinimiseTop (now (literals .exit)) used top r × Kept (pos 0) used (now (priorities .entry)) (now (priorities .exit)) × Kept (pos 0) used (now (literals .entry)) (now (literals .exit)) × Kept (pos 0) used (now (weights .entry)) (now (weights .exit)) ⌝ }
 {
     let f = read_signed(s, at, MOST_PRIORITY);
     let Signed::Whole { value: p, next: a } = f else {

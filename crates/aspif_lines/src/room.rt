@@ -23,7 +23,7 @@ pub type Priorities = [i32; ENTRY_ROOM];
 
 pub type Literals = [i32; ENTRY_ROOM];
 
-pub type Weights = [u32; ENTRY_ROOM];
+pub type Weights = [i32; ENTRY_ROOM];
 
 pub type Levels = [i32; LEVEL_ROOM];
 

@@ -1,6 +1,7 @@
 // Figures of a stored program: its counts, and a sum over each of its tables. A place outside a table counts as 0.
 use asp::literal::atom;
 use asp::literal::is_negative;
+use asp::penalty::size;
 use aspif::text::Stored;
 use aspif_lines::token::byte_at;
 ghost use Prim.Native.Nat.{_≤_};
@@ -31,12 +32,9 @@ pub fn equal(a: Figures, b: Figures) -> bool {
         && a.levels == b.levels
 }
 
+// A literal, a priority or a weight of a table.
 pub fn literal(t: &[i32], i: usize) -> i32 {
     if i < t.len() { t[i] } else { 0 }
-}
-
-fn wide32(x: u32) -> usize {
-    x as usize
 }
 
 fn wide16(x: u16) -> usize {
@@ -45,10 +43,6 @@ fn wide16(x: u16) -> usize {
 
 fn wide8(x: u8) -> usize {
     x as usize
-}
-
-fn weight(t: &[u32], i: usize) -> usize {
-    if i < t.len() { wide32(t[i]) } else { 0 }
 }
 
 pub fn byte(t: &[u8], i: usize) -> usize {
@@ -87,6 +81,18 @@ fn fold_literal(h: u32, l: i32) -> u32 {
     } else {
         fold_number(h, 2000 + m)
     }
+}
+
+fn sign(w: i32) -> u32 {
+    if is_negative(w) { 1 } else { 0 }
+}
+
+// A weight: its sign, its thousands and the rest.
+fn fold_weight(h: u32, w: i32) -> u32 {
+    let v = size(w);
+    let a = fold(h, sign(w));
+    let b = fold(a, v / 1000);
+    fold(b, v % 1000)
 }
 
 fn fold_literals(h: u32, t: &[i32], from: usize, k: usize) -> u32 {
@@ -168,7 +174,7 @@ fn fold_symbols<'a>(
 fn fold_entries<'a>(
     priorities: &'a [i32],
     literals: &'a [i32],
-    weights: &'a [u32],
+    weights: &'a [i32],
     count: usize,
 ) -> u32 {
     let mut h: u32 = 7;
@@ -176,7 +182,7 @@ fn fold_entries<'a>(
     while i < count {
         let a = fold_literal(h, literal(priorities, i));
         let b = fold_literal(a, literal(literals, i));
-        h = fold_number(b, weight(weights, i));
+        h = fold_weight(b, literal(weights, i));
         i += 1;
     }
     h

@@ -29,7 +29,7 @@ entries-formed p w = record {
 }
 
 -- eight figures stay eight with the first k written
-pub eight : (f : ℤ → ℕ) (levels : List ℤ) (k : ℕ) (xs : List ℕ) {ys : List ℕ} → ys ≡ map f (literalsAt levels 0 k) ++ drop k xs → length xs ≡ 8 → k ≤ 8 → length ys ≡ 8
+pub eight : (f : ℤ → ℤ) (levels : List ℤ) (k : ℕ) (xs : List ℤ) {ys : List ℤ} → ys ≡ map f (literalsAt levels 0 k) ++ drop k xs → length xs ≡ 8 → k ≤ 8 → length ys ≡ 8
 eight f levels k xs e h l =
     let size : length (map f (literalsAt levels 0 k)) ≡ k = length-map (literalsAt levels 0 k) f ∙ length-span (λ (j : ℕ). getD levels j (pos 0)) 0 k in
     omega (arith, ap length e ∙ length-append (map f (literalsAt levels 0 k)) (drop k xs), size, length-drop k xs)

@@ -2,6 +2,7 @@
 // tests/models/make.py writes the texts and the expected output, by clasp.
 ghost use mathlib.Core.Path.{_≡_};
 ghost use Prim.Native.Nat.{_≤_, _<_};
+ghost use lib.IntN.{natAbs};
 ghost use lib.ListN.{length};
 ghost use Rattle.aspif.specs.Store.{WellFormed};
 use asp::stable::Stability;
@@ -149,11 +150,32 @@ fn print_set(m: [u8; 1025]) {
     io::write_all(STDOUT_FILENO, b"}");
 }
 
+// A figure without its sign.
+fn size(x: i64) -> u64
+    ensures { λ r. ⌜ r ≡ natAbs x ⌝ }
+{
+    if x < 0 {
+        ((-(x + 1)) as u64) + 1
+    } else {
+        x as u64
+    }
+}
+
+// A figure with its sign, after a space.
+fn print_figure(x: i64) {
+    if x < 0 {
+        io::write_all(STDOUT_FILENO, b" -");
+    } else {
+        io::write_all(STDOUT_FILENO, b" ");
+    }
+    io::print_decimal(STDOUT_FILENO, size(x));
+}
+
 fn print_costs(p: Stored, m: [u8; 1025])
     requires { ⌜ WellFormed p ⌝ }
 {
     let k = p.counts.levels;
-    let mut figures = [0u64; 8];
+    let mut figures = [0i64; 8];
     asp::cost::level_costs(
         &p.levels,
         k,
@@ -166,8 +188,7 @@ fn print_costs(p: Stored, m: [u8; 1025])
     );
     let mut l: usize = 0;
     while l < k {
-        io::write_all(STDOUT_FILENO, b" ");
-        io::print_decimal(STDOUT_FILENO, figures[l]);
+        print_figure(figures[l]);
         l += 1;
     }
     io::write_all(STDOUT_FILENO, b"\n");

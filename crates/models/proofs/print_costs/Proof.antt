@@ -10,10 +10,10 @@ use Rattle.models.proofs.print_costs.Statement.{statement}
 use Rattle.models.proofs.print_costs.Tie as tie
 
 abbrev Inv-loop : tie.InvT-loop
-Inv-loop k figures l₀ t8 t9 l = (length figures ≡ 8) × (l ≤ k) × (k ≤ 8)
+Inv-loop k figures l₀ t8 l = (length figures ≡ 8) × (l ≤ k) × (k ≤ 8)
 
 abbrev μ-loop : tie.MeasureT-loop
-μ-loop k figures l₀ t8 t9 l = k - l
+μ-loop k figures l₀ t8 l = k - l
 
 slice-aggregate-level-costs : tie.Need-slice-aggregate-level-costs Inv-loop μ-loop
 slice-aggregate-level-costs c = search needs
@@ -24,20 +24,14 @@ level-costs-requires c κs = search (entries-formed, needs)
 loop-holds : tie.Need-loop-holds Inv-loop μ-loop
 loop-holds c = search (eight, needs)
 
-slice-aggregate-write-all : tie.Need-slice-aggregate-write-all Inv-loop μ-loop
-slice-aggregate-write-all c = search needs
+mul-print-figure : tie.Need-mul-print-figure Inv-loop μ-loop
+mul-print-figure c = search needs
 
-write-all-requires : tie.Need-write-all-requires Inv-loop μ-loop
-write-all-requires c κs = search needs
+array-copy-out-print-figure : tie.Need-array-copy-out-print-figure Inv-loop μ-loop
+array-copy-out-print-figure c = search needs
 
-mul-print-decimal : tie.Need-mul-print-decimal Inv-loop μ-loop
-mul-print-decimal c = search needs
-
-array-read-print-decimal : tie.Need-array-read-print-decimal Inv-loop μ-loop
-array-read-print-decimal c = search needs
-
-print-decimal-requires : tie.Need-print-decimal-requires Inv-loop μ-loop
-print-decimal-requires c κs = search needs
+print-figure-requires : tie.Need-print-figure-requires Inv-loop μ-loop
+print-figure-requires c κs = search needs
 
 add-l : tie.Need-add-l Inv-loop μ-loop
 add-l c = search needs
@@ -48,11 +42,11 @@ loop-less c = search needs
 loop-again : tie.Need-loop-again Inv-loop μ-loop
 loop-again c = search needs
 
-slice-aggregate-write-all-2 : tie.Need-slice-aggregate-write-all-2 Inv-loop μ-loop
-slice-aggregate-write-all-2 c = search needs
+slice-aggregate-write-all : tie.Need-slice-aggregate-write-all Inv-loop μ-loop
+slice-aggregate-write-all c = search needs
 
-write-all-requires-2 : tie.Need-write-all-requires-2 Inv-loop μ-loop
-write-all-requires-2 c κs = search needs
+write-all-requires : tie.Need-write-all-requires Inv-loop μ-loop
+write-all-requires c κs = search needs
 
 returns : tie.Need-returns Inv-loop μ-loop
 returns c = search needs
@@ -66,14 +60,12 @@ print-costs-spec =
     slice-aggregate-level-costs
     level-costs-requires
     loop-holds
-    slice-aggregate-write-all
-    write-all-requires
-    mul-print-decimal
-    array-read-print-decimal
-    print-decimal-requires
+    mul-print-figure
+    array-copy-out-print-figure
+    print-figure-requires
     add-l
     loop-less
     loop-again
-    slice-aggregate-write-all-2
-    write-all-requires-2
+    slice-aggregate-write-all
+    write-all-requires
     returns)

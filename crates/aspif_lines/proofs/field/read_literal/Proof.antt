@@ -1,4 +1,5 @@
 -- `aspif_lines::field::read_literal` meets its contract. Assumes nothing.
+use native.Mathlib.Omega.{arith}
 use borrow.Author.Tests.{eq-eqb, ne-eqb}
 use Rattle.aspif_lines.specs.Text.{literal}
 use Rattle.aspif_lines.proofs.Signs.{back}
@@ -25,7 +26,7 @@ returns c = (rw (c .code .ensures, ← c .before .before .before .read-signed .e
 atom-requires : tie.Need-atom-requires
 atom-requires c κs =
     let w = rw (c .before .n .given .1) at (c .before .before .before .read-signed .ensures .1) in
-    rw (back (c .before .n .given .0 .0) w) w
+    rw (back (c .before .n .given .0 .0) (omega (arith, w))) w
 
 returns-2 : tie.Need-returns-2
 unfolding literal
@@ -34,7 +35,7 @@ returns-2 c =
     let n = c .before .before .before .n in
     let z = n .given .0 .0 in
     let w = rw (n .given .1) at (read-signed .ensures .1) in
-    let e = rw (back z w) at (c .before .atom .ensures) in
+    let e = rw (back z (omega (arith, w))) at (c .before .atom .ensures) in
     (rw (← read-signed .ensures .0, n .given .1, ← e, eq-eqb _ 0 (c .if1 .taken)), tt)
 
 returns-3 : tie.Need-returns-3
@@ -44,7 +45,7 @@ returns-3 c =
     let n = c .before .before .before .n in
     let z = n .given .0 .0 in
     let w = rw (n .given .1) at (read-signed .ensures .1) in
-    let b = back z w in
+    let b = back z (omega (arith, w)) in
     let e = rw b at (c .before .atom .ensures) in
     (rw (b, ← read-signed .ensures .0, n .given .1, ← e, ne-eqb _ 0 (c .if1 .left)), rw b w)
 

@@ -22,7 +22,7 @@ code-requires c κs = search needs
 
 returns : tie.Need-returns
 unfolding minimiseLine
-returns c = (rw (c .code .ensures, ← c .before .before .before .read-signed .ensures .0, c .before .enum-told .given .1), tt, tt, kept-refl (pos 0) _ _, kept-refl (pos 0) _ _, kept-refl 0 _ _)
+returns c = (rw (c .code .ensures, ← c .before .before .before .read-signed .ensures .0, c .before .enum-told .given .1), tt, tt, kept-refl (pos 0) _ _, kept-refl (pos 0) _ _, kept-refl (pos 0) _ _)
 
 read-natural-requires : tie.Need-read-natural-requires
 read-natural-requires c κs = search needs
@@ -42,7 +42,7 @@ returns-2 c =
     let read-signed = c .before .before .before .before .before .before .before .read-signed in
     let f = c .before .before .before .before .before .f in
     let read-natural = c .before .before .before .read-natural in
-    (rw (c .code2 .ensures, ← read-signed .ensures .0, f .given .1, ← read-natural .ensures .0, c .before .enum-told2 .given .1), tt, tt, kept-refl (pos 0) _ _, kept-refl (pos 0) _ _, kept-refl 0 _ _)
+    (rw (c .code2 .ensures, ← read-signed .ensures .0, f .given .1, ← read-natural .ensures .0, c .before .enum-told2 .given .1), tt, tt, kept-refl (pos 0) _ _, kept-refl (pos 0) _ _, kept-refl (pos 0) _ _)
 
 size-requires : tie.Need-size-requires
 size-requires c κs = search needs

@@ -22,8 +22,8 @@ returns : tie.Need-returns
 unfolding pair
 returns c = (λ p. rw (c .code .ensures, ← c .before .before .before .read-literal .ensures .0, c .before .enum-told .given .1), tt)
 
-read-natural-requires : tie.Need-read-natural-requires
-read-natural-requires c κs = search needs
+read-signed-requires : tie.Need-read-signed-requires
+read-signed-requires c κs = search needs
 
 enum-known-n : tie.Need-enum-known-n
 enum-known-n c = search needs
@@ -39,19 +39,20 @@ unfolding pair
 returns-2 c =
     let read-literal = c .before .before .before .before .before .before .before .read-literal in
     let l = c .before .before .before .before .before .l in
-    let read-natural = c .before .before .before .read-natural in
-    (λ p. rw (c .code2 .ensures, ← read-literal .ensures .0, l .given .1, ← read-natural .ensures .0, c .before .enum-told2 .given .1), tt)
+    let read-signed = c .before .before .before .read-signed in
+    (λ p. rw (c .code2 .ensures, ← read-literal .ensures .0, l .given .1, ← read-signed .ensures .0, c .before .enum-told2 .given .1), tt)
 
 returns-3 : tie.Need-returns-3
 unfolding pair
 returns-3 c =
     let read-literal = c .before .before .before .before .before .before .before .read-literal in
     let l = c .before .before .before .before .before .l in
-    let read-natural = c .before .before .before .read-natural in
+    let read-signed = c .before .before .before .read-signed in
     let w = rw (l .given .1) at (read-literal .ensures .1) in
     let b = back (l .given .0 .0) (omega (arith, w)) in
-    let v = rw (c .before .n .given .1) at (read-natural .ensures .1) in
-    (λ p. rw (b, ← read-literal .ensures .0, l .given .1, ← read-natural .ensures .0, c .before .n .given .1), (rw b w, v .1))
+    let v = rw (c .before .n .given .1) at (read-signed .ensures .1) in
+    let d = back (c .before .n .given .0 .0) v in
+    (λ p. rw (b, d, ← read-literal .ensures .0, l .given .1, ← read-signed .ensures .0, c .before .n .given .1), (rw b w, rw d v))
 
 pub read-pair-spec : {M : Type 1} → statement M
 read-pair-spec =
@@ -62,7 +63,7 @@ read-pair-spec =
     enum-told
     code-requires
     returns
-    read-natural-requires
+    read-signed-requires
     enum-known-n
     enum-told-2
     code-requires-2

@@ -24,7 +24,7 @@ Inv-loop s at p k ps₀ ls₀ ws₀ used start a₀ top₀ i₀ ps ls ws a top i
     × (more (pair (toZ w32 p)) (k - i) (entriesAt ps ls ws used i) (drop a s) ≡ more (pair (toZ w32 p)) k [] (drop at s))
     × Kept (pos 0) used ps₀ ps
     × Kept (pos 0) used ls₀ ls
-    × Kept 0 used ws₀ ws
+    × Kept (pos 0) used ws₀ ws
     × (top ≡ max start (highest natAbs (literalsAt ls used i)))
 
 abbrev μ-loop : tie.MeasureT-loop
@@ -33,8 +33,8 @@ abbrev μ-loop : tie.MeasureT-loop
 loop-holds : tie.Need-loop-holds Inv-loop μ-loop
 unfolding span
 loop-holds c =
-    let args = c .before .before .args in
-    (omega arith, rw (sub-zero (args .k)), kept-refl (pos 0) (args .used) (args .priorities .now), kept-refl (pos 0) (args .used) (args .literals .now), kept-refl 0 (args .used) (args .weights .now), highest-none natAbs (args .start))
+    let args = c .before .args in
+    (omega arith, rw (sub-zero (args .k)), kept-refl (pos 0) (args .used) (args .priorities .now), kept-refl (pos 0) (args .used) (args .literals .now), kept-refl (pos 0) (args .used) (args .weights .now), highest-none natAbs (args .start))
 
 read-pair-requires : tie.Need-read-pair-requires Inv-loop μ-loop
 read-pair-requires c κs = search needs
@@ -59,7 +59,7 @@ same-length-3 c = c .before .before .before .before .before .loop .inv .4 .long
 
 returns : tie.Need-returns Inv-loop μ-loop
 returns c =
-    let args = c .before .before .before .before .before .before .before .before .args in
+    let args = c .before .before .before .before .before .before .before .args in
     let loop = c .before .before .before .before .before .loop in
     let loop-test = c .before .before .before .before .loop-test in
     let read-pair = c .before .before .before .read-pair in
@@ -68,25 +68,25 @@ returns c =
     (rw (c .code .ensures, ← inv, more-bad (pair (args .p)) (args .k) (loop .i) _ _ _ (loop-test .taken) (sym (read-pair .ensures .0 (args .p)) ∙ ap (seenPair (args .s .now) (args .p)) (c .before .enum-told .given .1)), c .before .enum-told .given .1), tt, loop .inv .2, loop .inv .3, loop .inv .4)
 
 add-j : tie.Need-add-j Inv-loop μ-loop
-add-j c = omega (arith, c .before .before .before .before .before .before .before .before .good)
+add-j c = omega (arith, c .before .before .before .before .before .before .before .good)
 
 mul-p : tie.Need-mul-p Inv-loop μ-loop
-mul-p c = omega (arith, c .before .before .before .before .before .before .before .before .good, c .before .before .before .before .before .loop .inv .2 .long)
+mul-p c = omega (arith, c .before .before .before .before .before .before .before .good, c .before .before .before .before .before .loop .inv .2 .long)
 
 slice-set-from-p : tie.Need-slice-set-from-p Inv-loop μ-loop
 slice-set-from-p c = omega (arith, c .before .before .before .before .before .loop .inv .2 .long)
 
 mul-literal : tie.Need-mul-literal Inv-loop μ-loop
-mul-literal c = omega (arith, c .before .before .before .before .before .before .before .before .good, c .before .before .before .before .before .loop .inv .3 .long)
+mul-literal c = omega (arith, c .before .before .before .before .before .before .before .good, c .before .before .before .before .before .loop .inv .3 .long)
 
 slice-set-from-literal : tie.Need-slice-set-from-literal Inv-loop μ-loop
 slice-set-from-literal c = omega (arith, c .before .before .before .before .before .loop .inv .3 .long)
 
-mul-weights : tie.Need-mul-weights Inv-loop μ-loop
-mul-weights c = omega (arith, c .before .before .before .before .before .before .before .before .good, c .before .before .before .before .before .loop .inv .4 .long)
+mul-weight : tie.Need-mul-weight Inv-loop μ-loop
+mul-weight c = omega (arith, c .before .before .before .before .before .before .before .good, c .before .before .before .before .before .loop .inv .4 .long)
 
-slice-write-weights : tie.Need-slice-write-weights Inv-loop μ-loop
-slice-write-weights c = omega (arith, c .before .before .before .before .before .loop .inv .4 .long)
+slice-set-from-weight : tie.Need-slice-set-from-weight Inv-loop μ-loop
+slice-set-from-weight c = omega (arith, c .before .before .before .before .before .loop .inv .4 .long)
 
 higher-requires : tie.Need-higher-requires Inv-loop μ-loop
 higher-requires c κs =
@@ -101,7 +101,7 @@ loop-less c = search needs
 
 loop-again : tie.Need-loop-again Inv-loop μ-loop
 loop-again c =
-    let args = c .before .before .before .before .before .before .before .before .before .args in
+    let args = c .before .before .before .before .before .before .before .before .args in
     let loop = c .before .before .before .before .before .before .loop in
     let loop-test = c .before .before .before .before .before .loop-test in
     let read-pair = c .before .before .before .before .read-pair in
@@ -110,6 +110,8 @@ loop-again c =
     let p = toZ w32 (ofZ w32 (args .p)) in
     let z = m .given .0 .0 in
     let b = back z (omega (arith, w)) in
+    let v = m .given .0 .1 .0 in
+    let d = back v (omega (arith, w)) in
     let u = args .used in
     let ps = loop .priorities in
     let ls = loop .literals in
@@ -117,11 +119,11 @@ loop-again c =
     let i = loop .i in
     let h : u + i < length ls = omega (arith, loop .inv .3 .long) in (
       omega arith,
-      rw (b, entries-push ps ls ws u i p z (m .given .0 .1 .0) (omega (arith, loop .inv .2 .long)) h (omega (arith, loop .inv .4 .long)))
+      rw (b, d, entries-push ps ls ws u i p z v (omega (arith, loop .inv .2 .long)) h (omega (arith, loop .inv .4 .long)))
           (sym (more-got (pair p) (args .k) i (entriesAt ps ls ws u i) _ _ _ (loop-test .taken) (sym (read-pair .ensures .0 p) ∙ ap (seenPair (args .s .now) p) (m .given .1))) ∙ loop .inv .1),
       kept-set (pos 0) u _ ps (u + i) _ (loop .inv .2) (omega arith),
       kept-set (pos 0) u _ ls (u + i) _ (loop .inv .3) (omega arith),
-      kept-set 0 u _ ws (u + i) _ (loop .inv .4) (omega arith),
+      kept-set (pos 0) u _ ws (u + i) _ (loop .inv .4) (omega arith),
       rw (b, literalsAt-push ls u i z h, highest-snoc natAbs (literalsAt ls u i) z) (omega (arith, loop .inv .5, rw b at (c .higher .ensures))),
     )
 
@@ -136,7 +138,7 @@ same-length-6 c = c .before .loop .inv .4 .long
 
 returns-2 : tie.Need-returns-2 Inv-loop μ-loop
 returns-2 c =
-    let args = c .before .before .before .before .args in
+    let args = c .before .before .before .args in
     let b = back (args .p) (omega arith) in
     let inv = rw b at (c .before .loop .inv .1) in
     let e : c .before .loop .i ≡ args .k = omega arith in
@@ -162,8 +164,8 @@ read-pairs-spec =
     slice-set-from-p
     mul-literal
     slice-set-from-literal
-    mul-weights
-    slice-write-weights
+    mul-weight
+    slice-set-from-weight
     higher-requires
     add-i
     loop-less

@@ -25,11 +25,11 @@ literal-requires-2 c κs = search needs
 fold-literal-requires-2 : tie.Need-fold-literal-requires-2 Inv-loop μ-loop
 fold-literal-requires-2 c κs = search needs
 
-weight-requires : tie.Need-weight-requires Inv-loop μ-loop
-weight-requires c κs = search needs
+literal-requires-3 : tie.Need-literal-requires-3 Inv-loop μ-loop
+literal-requires-3 c κs = search needs
 
-fold-number-requires : tie.Need-fold-number-requires Inv-loop μ-loop
-fold-number-requires c κs = search needs
+fold-weight-requires : tie.Need-fold-weight-requires Inv-loop μ-loop
+fold-weight-requires c κs = search needs
 
 add-i : tie.Need-add-i Inv-loop μ-loop
 add-i c = search needs
@@ -54,8 +54,8 @@ fold-entries-spec =
     fold-literal-requires
     literal-requires-2
     fold-literal-requires-2
-    weight-requires
-    fold-number-requires
+    literal-requires-3
+    fold-weight-requires
     add-i
     loop-less
     loop-again
