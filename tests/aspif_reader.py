@@ -84,7 +84,7 @@ def statement(line, p):
         pairs = []
         for _ in range(k):
             z = f.literal()
-            pairs.append((q, z, f.next(0, 1000000)))
+            pairs.append((q, z, f.next(-1000000, 1000000, True)))
         f.end()
         p.entries += pairs
         p.levels.add(q)
