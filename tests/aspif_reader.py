@@ -1,5 +1,5 @@
 #!/usr/bin/env python3
-"""A reader of texts in Python, written from document 01 alone: the program of a text, or its refusal's number and line.
+"""A reader of texts in Python, written from document 01 and order 1 alone: the program of a text, or its refusal's number and line.
 
 tests/aspif_texts.py and tests/service.py use it.
 """
