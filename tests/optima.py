@@ -63,8 +63,8 @@ BY_HAND = {
 
 def both_ways(atoms, times, weight=1):
     """So many wishes for each atom to be out, in turn as a cost of the atom and as a reward for its complement."""
-    pairs = [(a, weight) if (i + a) % 2 else (-a, -weight) for i in range(times) for a in atoms]
-    return f'2 0 {len(pairs)} ' + ' '.join(f'{l} {w}' for l, w in pairs) + '\n'
+    entries = [(a, weight) if (i + a) % 2 else (-a, -weight) for i in range(times) for a in atoms]
+    return f'2 0 {len(entries)} ' + ' '.join(f'{l} {w}' for l, w in entries) + '\n'
 
 
 # order 1, weights below zero

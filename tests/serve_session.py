@@ -40,9 +40,9 @@ def many(filling):
 
 def ninety():
     """At most two of six atoms are out, and each is wished out fifteen times, in turn by a weight of 1 and by one of -1 on the complement: the level weighs 90, and cores have cores inside."""
-    pairs = [(a, 1) if (i + a) % 2 else (-a, -1) for i in range(15) for a in range(1, 7)]
+    entries = [(a, 1) if (i + a) % 2 else (-a, -1) for i in range(15) for a in range(1, 7)]
     return ('1 1 6 1 2 3 4 5 6 0 0\n' + ''.join(f'1 0 0 0 3 -{a} -{b} -{c}\n' for a, b, c in combinations(range(1, 7), 3))
-            + f'2 0 {len(pairs)} ' + ' '.join(f'{l} {w}' for l, w in pairs) + '\n')
+            + f'2 0 {len(entries)} ' + ' '.join(f'{l} {w}' for l, w in entries) + '\n')
 
 
 BOUNTY = '2 0 512' + ' 1 -1000000' * 512 + '\n'
