@@ -3,7 +3,7 @@
 
     apt-get install clasp && tests/models/make.py && tests/optima.py
 
-The programs are those of crates/models, some with cores, strata and levels written by hand, and forty random ones. The costs at the end, or that there is no
+The programs are those of crates/models, some with cores, strata and levels written by hand, forty random ones and fifty with weights of both signs. The costs at the end, or that there is no
 stable model, are clasp's (Debian's package clasp). The lines of single advances and the number of advances come from tests/optima_model.py, whose end must be
 clasp's too. No line comes from the project's own programs.
 """
@@ -61,10 +61,40 @@ BY_HAND = {
 }
 
 
-def random_program(seed):
-    """8 to 20 atoms, one to three levels with priorities of either sign; choices, plain rules, constraints, loops, duplicates, weight 0."""
+def both_ways(atoms, times, weight=1):
+    """So many wishes for each atom to be out, in turn as a cost of the atom and as a reward for its complement."""
+    entries = [(a, weight) if (i + a) % 2 else (-a, -weight) for i in range(times) for a in atoms]
+    return f'2 0 {len(entries)} ' + ' '.join(f'{l} {w}' for l, w in entries) + '\n'
+
+
+# order 1, weights below zero
+REWARDS = {
+    # the cores of 'sevenfive' and 'twoofthree', by rewards
+    'rewardcore': CHOICE3 + '1 0 0 0 3 -1 -2 -3\n2 0 3 -1 -7 -2 -5 -3 -5\n',
+    'rewardcores': CHOICE3 + pairs(2, [1, 2, 3]) + '2 0 3 -1 -7 2 5 -3 -5\n',
+    # at least three of four for the rewards of being out, and a reward for each that is in, a level below
+    'paidtwice': CHOICE4 + pairs(2, [1, 2, 3, 4]) + '2 1 4 -1 -3 -2 -2 3 2 4 1\n2 0 4 1 -1 2 -1 3 -1 4 -1\n',
+    # a level is settled as it opens at its start, below zero; not at 0, which the first model costs
+    'atstart': '1 1 2 1 2 0 0\n2 3 1 -2 -6\n2 2 2 -2 0 1 -4\n2 1 2 1 -8 2 -8\n',
+    'notatzero': '1 1 1 1 0 1 -2\n2 1 1 1 -4\n2 0 1 -1 -9\n',
+    # the first model costs 0 0, and one of -1 9 is found later
+    'later': CHOICE3 + '1 0 0 0 2 -1 2\n1 0 0 0 2 1 3\n2 5 2 2 -1 3 1\n2 4 3 3 -9 2 4 1 5\n',
+    # the largest figure of a level: had by the first model; had never, so that 512 cores take it back
+    'bounty': '1 1 1 1 0 0\n2 0 512' + ' 1 -1000000' * 512 + '\n',
+    'nobounty': ''.join(f'1 0 0 0 1 {a}\n' for a in range(2, 8)) + '2 0 512' + ' 1 -1000000' * 512 + '\n',
+    # levels that weigh 90, by sizes of both signs, with cores of cores: never full
+    'ninety': '1 1 9 1 2 3 4 5 6 7 8 9 0 0\n' + pairs(3, range(1, 10)) + both_ways(range(1, 10), 10),
+    'ninetyby15': CHOICE6 + pairs(4, [1, 2, 3, 4, 5, 6]) + both_ways([1, 2, 3, 4, 5, 6], 1, 15),
+    'ninetysix': CHOICE6 + pairs(3, [1, 2, 3, 4, 5, 6]) + '2 0 6 1 30 -2 -25 3 15 -4 -10 5 6 -6 -4\n',
+    'eightrewards': '1 1 2 1 2 0 0\n1 0 0 0 2 1 2\n' + ''.join(f'2 {p} 2 {"" if p % 2 else "-"}1 {-p - 5} 2 {p}\n' for p in range(-4, 4)),
+}
+
+
+def random_program(seed, signed=False):
+    """8 to 20 atoms (5 to 14 with `signed`, for weights of both signs), one to three levels with priorities of either sign; choices, plain rules, constraints, loops, duplicates,
+    weight 0."""
     r = random.Random(1000 + seed)
-    n = r.randint(8, 20)
+    n = r.randint(5, 14) if signed else r.randint(8, 20)
     literal = lambda: r.choice((1, -1)) * r.randint(1, n)
     lines = []
     if r.random() < 0.7:                                    # a wide choice, so that costs decide
@@ -88,9 +118,10 @@ def random_program(seed):
             lines.append([1, 0, 0, 0, len(body), *body])
     for p in r.sample(range(-4, 5), r.randint(1, 3)):
         for _ in range(r.choice((1, 1, 2))):
-            entries = [(literal(), r.choice((0, 1, 1, 1, 2, 3, 5, 9, 1000000))) for _ in range(r.randint(2, 7))]
+            sign = lambda: r.choice((1, -1)) if signed else 1
+            entries = [(literal(), sign() * r.choice((0, 1, 1, 1, 2, 3, 5, 9, 1000000))) for _ in range(r.randint(2, 7))]
             if r.random() < 0.4:
-                entries.append((entries[0][0], r.choice((1, 4))))
+                entries.append((sign() * entries[0][0], sign() * r.choice((1, 4))))
             lines.append([2, p, len(entries), *[x for e in entries for x in e]])
     if r.random() < 0.2:
         lines.append([2, r.randint(-4, 4), 0])
@@ -133,6 +164,31 @@ def clasp_end(text):
     return costs
 
 
+def starts(machine):
+    """Where the lower bounds start: the sums of the negative weights."""
+    return [sum(min(w, 0) for q, _, w in machine.entries if q == p) for p in machine.priorities]
+
+
+def some(shape, count, seed, signed, texts, expected):
+    """So many random programs that end soon, with few that have no costs to find; the seeds tried."""
+    found = dull = 0
+    while found < count:
+        name, text = f'{shape}{found:02}', f'asp 1 0 0\n{random_program(seed, signed)}0\n'
+        seed += 1
+        machine = Machine(text)
+        while machine.status == 'running' and machine.count <= MOST:
+            machine.advance()
+        if machine.count > MOST:
+            continue
+        if machine.status == 'incoherent' or machine.upper == starts(machine):
+            if dull == 6:
+                continue                                    # most should have costs to find
+            dull += 1
+        found += 1
+        texts[name], expected[name] = text, lines(name, text)
+    return seed
+
+
 def lines(name, text):
     """What crates/optima must print of a program."""
     machine = Machine(text)
@@ -141,9 +197,8 @@ def lines(name, text):
         machine.advance()
         steps.append(machine.line())
     costs = clasp_end(text)
-    k = len(machine.priorities)
     if costs is None:
-        end = f'{machine.count} incoherent lower' + ' 0' * k + ' upper' + ' -' * k + ' level 0 stratum 0'
+        end = f'{machine.count} incoherent lower' + ''.join(f' {s}' for s in starts(machine)) + ' upper' + ' -' * len(machine.priorities) + ' level 0 stratum 0'
     else:
         figures = ''.join(f' {c}' for c in costs)
         end = f'{machine.count} optimum lower{figures} upper{figures} level 0 stratum 0'
@@ -158,25 +213,10 @@ def main():
     texts = {}
     for name in open(os.path.join(models, 'args')).read().split():
         texts[name] = open(os.path.join(models, 'data', name)).read()
-    for name, body in BY_HAND.items():
-        texts[name] = f'asp 1 0 0\n{body}0\n'
-    texts['largest'] = f'asp 1 0 0\n{largest()}0\n'
+    texts |= {name: f'asp 1 0 0\n{body}0\n' for name, body in {**BY_HAND, 'largest': largest(), **REWARDS}.items()}
     expected = {name: lines(name, text) for name, text in texts.items()}
-    seed, found, dull = 0, 0, 0
-    while found < 40:
-        name, text = f'mixed{found:02}', f'asp 1 0 0\n{random_program(seed)}0\n'
-        seed += 1
-        machine = Machine(text)
-        while machine.status == 'running' and machine.count <= MOST:
-            machine.advance()
-        if machine.count > MOST:
-            continue
-        if machine.status == 'incoherent' or machine.upper == [0] * len(machine.upper):
-            if dull == 6:
-                continue                                    # most should have costs to find
-            dull += 1
-        found += 1
-        texts[name], expected[name] = text, lines(name, text)
+    seeds = some('mixed', 40, 0, False, texts, expected)
+    seeds += some('rewards', 50, 500, True, texts, expected) - 500
     os.makedirs(os.path.join(OUT, 'data'), exist_ok=True)
     for old in os.listdir(os.path.join(OUT, 'data')):
         os.remove(os.path.join(OUT, 'data', old))
@@ -191,7 +231,7 @@ def main():
     ends = {s: sum(m.status == s for m in machines) for s in ('optimum', 'incoherent', 'full')}
     print(f'{len(texts)} programs ({ends}), {sum(len(ls) for _, ls in expected.values())} lines,',
           f'{sum(m.count for m in machines)} advances, at most {max(m.count for m in machines)};',
-          f'{sum(m.cored for m in machines)} cores, {sum(m.nested for m in machines)} with derived members; {seed} seeds')
+          f'{sum(m.cored for m in machines)} cores, {sum(m.nested for m in machines)} with derived members; {seeds} seeds')
 
 
 main()

@@ -1,14 +1,14 @@
 #!/usr/bin/env python3
-"""Document 01's machine, advance by advance, with the parts that it leaves free as docs/DECISIONS.md says ("The free parts of the machine").
+"""Document 01's machine with order 1's signed weights, advance by advance, with the parts that it leaves free as docs/DECISIONS.md says ("The free parts of the machine").
 
-Written from those two papers and in their words, not from the code: sets are Python sets, a path is a list of literals with their marks, a wish is judged by
+Written from those papers and in their words, not from the code: sets are Python sets, a path is a list of literals with their marks, a wish is judged by
 counting its core's unmet members each time. "Broken in every set that agrees with the path" is tried out over every choice for the undecided atoms of the rule.
 tests/optima.py uses it for the lines of single advances and for the number of advances; the costs at the end are clasp's. tests/service.py uses it as the
 machine of the service.
 """
 from itertools import product
 
-from branching import free_literal
+from branching import free_literal, penalty
 
 WISHES = MEMBERS = 4096
 
@@ -72,7 +72,8 @@ class Machine:
         self.n, self.rules, self.priorities, self.entries = read(text) if isinstance(text, str) else text
         self.status, self.count = 'running', 0
         self.path, self.blamed = [], []
-        self.lower = [0] * len(self.priorities)
+        # "A level's lower bound starts at the sum of its negative weights, also on levels not yet in work."
+        self.lower = [sum(w for q, _, w in self.entries if q == p and w < 0) for p in self.priorities]
         self.best, self.upper = None, None
         self.work = None                     # the level in work, from 0; none during the first question
         self.wishes, self.cores, self.stratum = [], [], 0
@@ -84,7 +85,7 @@ class Machine:
         return [sum(w for q, l, w in self.entries if q == p and holds(m, l)) for p in self.priorities]
 
     def unmet(self, m, i):
-        """Wish i. A wish of an entry is for its literal's complement; the i-th of a core "holds when at most i members are unmet"."""
+        """Wish i. An entry's is for the complement of the literal in it; the i-th of a core "holds when at most i members are unmet"."""
         kind, what, _ = self.wishes[i]
         if kind == 'entry':
             return holds(m, what)
@@ -156,7 +157,7 @@ class Machine:
                 return self.end(m)
             self.blame(unmet)
             return self.fail()
-        # a wish for an entry is broken in every set that agrees when its entry's literal is on the path
+        # a wish for an entry is broken in every set that agrees when the literal in it is on the path
         unmet = [i for i in assumed if self.wishes[i][0] == 'entry' and self.wishes[i][1] in path]
         if unmet:
             self.blame(unmet)
@@ -194,13 +195,13 @@ class Machine:
 
     def open(self, level):
         """Level after level: one that the best model settles at once is settled in the same advance."""
-        while level < len(self.priorities) and self.upper[level] == 0:
+        while level < len(self.priorities) and self.upper[level] == self.lower[level]:
             level += 1
         if level == len(self.priorities):
             self.status, self.work = 'optimum', None
             return
         self.work, self.cores = level, []
-        self.wishes = [['entry', l, w] for q, l, w in self.entries if q == self.priorities[level] and w > 0]
+        self.wishes = [['entry', *penalty(l, w)] for q, l, w in self.entries if q == self.priorities[level] and w != 0]
         self.stratum = max(w[2] for w in self.wishes)
 
     def line(self):

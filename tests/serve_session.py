@@ -1,9 +1,10 @@
 #!/usr/bin/env python3
-"""Writes crates/serve/stdin and stdout: a session with every command, every refusal, lines that are no command, and several programs one after another.
+"""Writes crates/serve/stdin and stdout: a session with every command, every refusal, lines that are no command, and several programs one after another, with weights of both signs too.
 
 The commands stand here. What `serve` has to print for them comes from tests/service.py, the model of document 01, and not from the program.
 """
 import os
+from itertools import combinations
 
 from service import Service
 
@@ -37,6 +38,39 @@ def many(filling):
             '4 4 rest 1 102\n4 5 cheap 1 101\n')
 
 
+def ninety():
+    """At most two of six atoms are out, and each is wished out fifteen times, in turn by a weight of 1 and by one of -1 on the complement: the level weighs 90, and cores have cores inside."""
+    entries = [(a, 1) if (i + a) % 2 else (-a, -1) for i in range(15) for a in range(1, 7)]
+    return ('1 1 6 1 2 3 4 5 6 0 0\n' + ''.join(f'1 0 0 0 3 -{a} -{b} -{c}\n' for a, b, c in combinations(range(1, 7), 3))
+            + f'2 0 {len(entries)} ' + ' '.join(f'{l} {w}' for l, w in entries) + '\n')
+
+
+BOUNTY = '2 0 512' + ' 1 -1000000' * 512 + '\n'
+EITHER = '1 1 2 1 2 0 0\n1 0 0 0 2 -1 -2\n1 0 0 0 2 1 2\n'
+END = ['run 4294967295', 'look', 'model']
+# Order 1, weights below zero: each program is looked at right after its load.
+REWARDS = [
+    program('1 1 2 1 2 0 0\n2 1 2 1 -3 2 2\n'), 'look', 'write', 'write 40', 'write 41', 'run 2', 'look', *END,
+    program('1 0 1 1 0 1 -1\n2 0 1 1 -5\n'), 'look', *END,
+    program('1 0 1 1 0 0\n2 2 1 1 -4\n2 1 2 1 -2 -1 -7\n'), 'look', 'advance', 'advance', 'look', *END,
+    # refused, with the program before them as it was; both ends of the range
+    load('asp 1 0 0\n2 0 1 1 -0\n0\n'), load('asp 1 0 0\n2 0 1 1 -1000001\n0\n'), load('asp 1 0 0\n2 0 1 1 - 1\n0\n'), load('asp 1 0 0\n2 0 1 1 -01\n0\n'),
+    load('asp 1 0 0\n2 0 -1 1 1\n0\n'), 'look', program('2 0 2 1 -1000000 -2 -1\n'), 'write', 'look', *END,
+    # the largest figures: had by the first model; had by none, taken back core by core
+    program('1 1 1 1 0 0\n' + BOUNTY), 'look', *END, program('1 0 0 0 1 2\n' + BOUNTY), 'look', 'run 1000', 'look', *END,
+    # 512 rewards on eight levels
+    program('1 1 1 1 0 0\n' + ''.join(f'2 {p} 64' + f' {1 if p % 2 else -1} {-1000 - p}' * 64 + '\n' for p in range(8))), 'look', *END,
+    # a level that weighs 90 without signs
+    program(ninety()), 'look', 'run 200', 'look', 'run 1000', 'look', *END,
+    # both signs on one literal, weight 0: two entries, two wishes; nothing cancels
+    program('1 1 2 1 2 0 0\n2 0 9 1 3 1 -5 -1 -2 -1 4 2 0 -2 -1 -2 -1 2 -1 1 0\n'), 'look', 'run 3', 'look', *END,
+    program('1 1 1 1 0 0\n2 1 2 1 4 1 -4\n2 0 2 1 6 -1 6\n2 -1 2 1 -6 -1 -6\n'), 'look', 'run 3', 'look', *END,
+    # rewards that no model has; a cost of -1 against 1, -5 against -3, above what stands on a lower level
+    program('1 0 1 1 0 0\n2 0 2 -1 -4 2 -3\n'), 'look', *END,
+    program(EITHER + '2 2 2 1 1 2 -1\n2 1 2 1 -9 2 9\n'), 'look', *END, program(EITHER + '2 0 2 1 -3 2 -5\n'), *END,
+    program(EITHER + '2 7 1 2 -1\n2 -7 2 1 -1000000 2 1000000\n4 4 both 2 1 2\n4 3 two 1 2\n'), 'look', *END, 'shown 0', 'shown 1',
+]
+
 SESSION = [
     # nothing loaded
     'look', 'advance', 'run 5', 'write', 'model', 'symbol 0', 'shown 0', '', 'clear',
@@ -56,6 +90,7 @@ SESSION = [
     program('1 1 2 1 2 0 0\n1 0 1 3 0 1 -3\n2 5 2 1 5 -2 6\n4 1 x 0\n'), 'run 1000', 'look', 'model', 'shown 0', 'symbol 0 1', 'advance',
     program('1 0 1 1 0 1 1\n'), 'run 1', 'look', 'run 1', 'run 1', 'look', 'model',
     program('10 ' + 'x' * (65536 - 12 - 4) + '\n'), 'write', 'advance', 'look', 'model', 'model 0',
+    *REWARDS,
     # 4,096 wishes on a level, and one too many
     program(many(57)), 'run 8000', 'look', 'run 4294967295', 'look', 'model', 'shown 1',
     program(many(58)), 'run 4294967295', 'look', 'model', 'shown 1', 'shown 0', 'advance', 'run 3',

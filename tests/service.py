@@ -1,5 +1,5 @@
 #!/usr/bin/env python3
-"""The service of document 01, and the program `serve` over it, as an independent model in Python.
+"""The service of document 01 with order 1's signed weights, and the program `serve` over it, as an independent model in Python.
 
 Written from document 01 ("The calls", "Refused because ..") and from what is said of `serve` in print, not from the code. The text is read by
 tests/aspif_reader.py, the machine is that of tests/optima_model.py. Each call answers with the bytes that `serve` prints for it.

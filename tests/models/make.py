@@ -1,14 +1,14 @@
 #!/usr/bin/env python3
 """Writes the data of the test program crates/models: small programs in aspif, and for each its stable models with
-their costs. The models are clasp's (Debian's package clasp), the costs are summed here from the minimise lines.
+their costs. The models and costs are clasp's (Debian's package clasp); the costs are also summed here from the minimise lines.
 
     apt-get install clasp && tests/models/make.py
 
 Every program has at most 12 atoms, since the test program tries every set of atoms.
 """
+import json
 import os
 import random
-import re
 import subprocess
 
 HERE = os.path.dirname(os.path.abspath(__file__))
@@ -46,9 +46,30 @@ BY_HAND = {
     'emptychoice': '1 1 0 0 0\n1 1 2 3 4 0 1 -5\n',
 }
 
+EITHER = '1 1 2 1 2 0 0\n1 0 0 0 2 -1 -2\n1 0 0 0 2 1 2\n'       # {1} and {2}
 
-def random_program(seed):
-    """All shapes: facts, plain rules, choices, constraints, levels, duplicate literals, loops."""
+# order 1, weights below zero
+REWARDS = {
+    'reward': '1 1 2 1 2 0 0\n2 1 2 1 -3 2 2\n',
+    'barren': '1 0 1 1 0 1 -1\n2 0 1 1 -5\n',
+    'fixed': '1 0 1 1 0 0\n2 2 1 1 -4\n2 1 2 1 -2 -1 -7\n',
+    # both signs on one literal, twice the same entry, weight 0
+    'opposed': '1 1 2 1 2 0 0\n2 0 9 1 3 1 -5 -1 -2 -1 4 2 0 -2 -1 -2 -1 2 -1 1 0\n',
+    'cancelled': '1 1 1 1 0 0\n2 1 2 1 4 1 -4\n2 0 2 1 6 -1 6\n2 -1 2 1 -6 -1 -6\n',
+    # -1 against 1, -5 against -3, -1 against 0, and what stands on a lower level
+    'ahead': EITHER + '2 2 2 1 1 2 -1\n2 1 2 1 -9 2 9\n',
+    'more': EITHER + '2 0 2 1 -3 2 -5\n',
+    'below': EITHER + '2 7 1 2 -1\n2 -7 2 1 -1000000 2 1000000\n',
+    # rewards that cannot be had: no rule for it, a fact's negation, a loop without a reason, never both
+    'vain': '1 0 1 1 0 0\n2 0 2 -1 -4 2 -3\n',
+    'vainloop': '1 0 1 1 0 1 2\n1 0 1 2 0 1 1\n1 1 1 3 0 0\n2 3 2 1 -2 2 -2\n2 1 1 3 -7\n',
+    'rivals': '1 1 3 1 2 3 0 0\n1 0 0 0 2 1 2\n1 0 0 0 2 2 3\n1 0 0 0 2 1 3\n2 0 3 1 -7 2 -5 3 -5\n',
+    'largereward': '1 1 2 1 2 0 0\n1 0 0 0 2 1 2\n2 1000 2 1 -1000000 2 -999999\n2 -1000 2 1 1000000 -2 -1000000\n',
+}
+
+
+def random_program(seed, signed=False):
+    """All shapes: facts, plain rules, choices, constraints, levels, duplicate literals, loops; with `signed` weights of both signs, on one literal too."""
     r = random.Random(seed)
     n = r.randint(5, 10)
 
@@ -67,8 +88,10 @@ def random_program(seed):
         else:
             body = body or literals(2)
             lines.append(' '.join(map(str, [1, 0, 0, 0, len(body)] + body)))
-    for _ in range(r.randint(0, 3)):
-        pairs = [(l, r.choice((0, 1, 2, 5, 1000000))) for l in literals(r.randint(0, 4))]
+    for _ in range(r.randint(1, 4) if signed else r.randint(0, 3)):
+        pairs = [(l, r.choice((-1000000, -5, -2, -2, -1, 0, 1, 2, 3, 1000000) if signed else (0, 1, 2, 5, 1000000))) for l in literals(r.randint(0, 4))]
+        if signed and pairs:
+            pairs.append((r.choice((1, -1)) * pairs[0][0], r.choice((-3, -1, 0, 2))))
         lines.append(' '.join(map(str, [2, r.randint(-3, 3), len(pairs)] + [x for p in pairs for x in p])))
     return ''.join(l + '\n' for l in lines)
 
@@ -94,14 +117,14 @@ def statements(text):
 
 
 def clasp_models(text):
-    """All stable models by clasp, as sets of atoms: each atom is given a name of its own."""
+    """All stable models by clasp, as sets of atoms with their costs: each atom is given a name of its own."""
     _, _, n = statements(text)
     body = [l for l in text.splitlines()[1:-1] if not l.startswith('4 ')]
     shows = [f'4 {len(str(a)) + 1} x{a} 1 {a}' for a in range(1, n + 1)]
     given = '\n'.join(['asp 1 0 0'] + body + shows + ['0']) + '\n'
-    out = subprocess.run(['clasp', '-n', '0', '--opt-mode=ignore', '-'], input=given, capture_output=True, text=True).stdout
-    assert 'SATISFIABLE' in out, out
-    return [frozenset(int(w[1:]) for w in line.split()) for line in re.findall(r'^Answer: \d+\n(.*)$', out, re.M)]
+    out = json.loads(subprocess.run(['clasp', '-n', '0', '--opt-mode=enum', '--outf=2', '-'], input=given, capture_output=True, text=True).stdout)
+    assert out['Models']['More'] == 'no', out               # all of them
+    return {frozenset(int(x[1:]) for x in w['Value']): w.get('Costs', []) for w in out['Call'][-1].get('Witnesses', [])}
 
 
 def cost(model, entries, priorities):
@@ -110,7 +133,13 @@ def cost(model, entries, priorities):
 
 
 def main():
-    programs = {**SAMPLES, **BY_HAND, **{f'random{s:02}': random_program(s) for s in range(24)}}
+    programs = {**SAMPLES, **BY_HAND, **{f'random{s:02}': random_program(s) for s in range(24)}, **REWARDS}
+    seed = 24
+    while len(programs) < 46 + len(REWARDS) + 24:           # signed ones, with a choice of models
+        text = random_program(seed, True)
+        seed += 1
+        if len(clasp_models(HEADER + text + '0\n')) > 1:
+            programs[f'signed{len(programs) - 46 - len(REWARDS):02}'] = text
     os.makedirs(os.path.join(OUT, 'data'), exist_ok=True)
     expected = []
     for name, text in programs.items():
@@ -119,10 +148,11 @@ def main():
             f.write(text)
         entries, priorities, n = statements(text)
         assert n <= 12, (name, n)
-        models = sorted(clasp_models(text), key=lambda m: sum(1 << a for a in m))
+        models = clasp_models(text)
         expected.append(f'{name}: {len(models)} of {2 ** n}\n')
-        for m in models:
-            figures = ''.join(f' {c}' for c in cost(m, entries, priorities))
+        for m in sorted(models, key=lambda m: sum(1 << a for a in m)):
+            assert models[m] == cost(m, entries, priorities), (name, m, models[m])
+            figures = ''.join(f' {c}' for c in models[m])
             expected.append('{' + ','.join(map(str, sorted(m))) + '}' + figures + '\n')
     with open(os.path.join(OUT, 'args'), 'w') as f:
         f.write(''.join(name + '\n' for name in programs))
