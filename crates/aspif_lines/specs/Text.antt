@@ -1,5 +1,5 @@
 -- What a text is: its refusal and line, or its program and the text less its comment lines.
--- Document 01, "The text" and "Refused because of what was handed in", whose sentences stand here as comments. Assumes nothing: these are definitions.
+-- Document 01, "The text" and "Refused because of what was handed in", and order 1 of document 02: their sentences stand here as comments. Assumes nothing: these are definitions.
 use mathlib.Core.Bool.{Bool, true, false, not, _&&_}
 use mathlib.Core.List.{List, [], _∷_, _++_, map}
 use Prim.Native.Nat.{ℕ, zero, suc, _+_, _-_, _*_}
