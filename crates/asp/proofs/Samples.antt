@@ -1,4 +1,4 @@
--- The starred samples of document 01, "Sample programs", that speak of stable models and costs: one table, proved as a whole.
+-- The starred samples of document 01, "Sample programs", that speak of stable models and costs, and two of order 1: one table, proved as a whole.
 -- Each program has exactly the stable models listed, among all sets of atoms, and each of them costs what is listed. Assumes nothing.
 use mathlib.Core.Path.{_≡_, refl, subst}
 use mathlib.Core.Bool.{Bool, true, false}
@@ -11,7 +11,7 @@ use lib.IntN.{ℤ, pos, negsuc}
 use Rattle.asp.specs.Sets.{Set, In, same, iterate}
 use Rattle.asp.specs.Program.{Literal, Body, normal, Head, constraint, plain, choice, Rule, Entry, Program, All, RuleIn, atoms, highest}
 use Rattle.asp.specs.Stable.{Stable, listed, models, allHold, member, adds, anyViolated, subsets, keep}
-use Rattle.asp.specs.Cost.{level, totalℤ, costs, cheaper}
+use Rattle.asp.specs.Cost.{level, total, totalℤ, W, costs, starts, cheaper}
 use Rattle.asp.proofs.Models.{OneOf, models-all, models-only}
 
 -- ---- the table
@@ -44,6 +44,14 @@ plan = record {
   symbols = record { name = 97 ∷ []; condition = pos 1 ∷ [] } ∷ record { name = 98 ∷ []; condition = pos 2 ∷ [] } ∷ [];
 }
 
+abbrev rewarded : Program
+rewarded = record {
+  rules = rule (plain 1) [] ∷ [];
+  priorities = pos 2 ∷ pos 1 ∷ [];
+  entries = entry (pos 2) (pos 1) (negsuc 3) ∷ entry (pos 1) (pos 1) (negsuc 1) ∷ entry (pos 1) (negsuc 0) (negsuc 6) ∷ [];
+  symbols = [];
+}
+
 abbrev pub table : List Sample
 table =
     -- no statement
@@ -73,6 +81,14 @@ table =
     }
     -- the file plan.aspif
     ∷ record { program = plan; models = (1 ∷ []) ∷ (2 ∷ []) ∷ (3 ∷ 2 ∷ 1 ∷ []) ∷ []; costs = (pos 2 ∷ []) ∷ (pos 3 ∷ []) ∷ (pos 5 ∷ []) ∷ [] }
+    -- order 1: choice {1, 2}, atom 1 at weight -3 and atom 2 at 2
+    ∷ record {
+      program = record { rules = rule (choice (1 ∷ 2 ∷ [])) [] ∷ []; priorities = pos 1 ∷ []; entries = entry (pos 1) (pos 1) (negsuc 2) ∷ entry (pos 1) (pos 2) (pos 2) ∷ []; symbols = [] };
+      models = [] ∷ (1 ∷ []) ∷ (2 ∷ []) ∷ (2 ∷ 1 ∷ []) ∷ [];
+      costs = (pos 0 ∷ []) ∷ (negsuc 2 ∷ []) ∷ (pos 2 ∷ []) ∷ (negsuc 0 ∷ []) ∷ [];
+    }
+    -- order 1: the fact 1, at -4 above; below it at -2, and its negation at -7
+    ∷ record { program = rewarded; models = (1 ∷ []) ∷ []; costs = (negsuc 3 ∷ negsuc 1 ∷ []) ∷ [] }
     ∷ []
 
 -- ---- what the table says
@@ -101,7 +117,7 @@ all-right (s ∷ ss) c = (right s (c .0), all-right ss (c .1))
 
 computed : All Computed table
 unfolding highest same iterate allHold member adds anyViolated subsets keep level totalℤ
-computed = (record { heads = tt; found = refl; priced = refl }, (record { heads = omega arith; found = refl; priced = refl }, (record { heads = omega arith; found = refl; priced = refl }, (record { heads = omega arith; found = refl; priced = refl }, (record { heads = omega arith; found = refl; priced = refl }, (record { heads = omega arith; found = refl; priced = refl }, (record { heads = omega arith; found = refl; priced = refl }, (record { heads = omega arith; found = refl; priced = refl }, (record { heads = omega arith; found = refl; priced = refl }, tt)))))))))
+computed = (record { heads = tt; found = refl; priced = refl }, (record { heads = omega arith; found = refl; priced = refl }, (record { heads = omega arith; found = refl; priced = refl }, (record { heads = omega arith; found = refl; priced = refl }, (record { heads = omega arith; found = refl; priced = refl }, (record { heads = omega arith; found = refl; priced = refl }, (record { heads = omega arith; found = refl; priced = refl }, (record { heads = omega arith; found = refl; priced = refl }, (record { heads = omega arith; found = refl; priced = refl }, (record { heads = omega arith; found = refl; priced = refl }, (record { heads = omega arith; found = refl; priced = refl }, tt)))))))))))
 
 pub table-right : All Right table
 table-right = all-right table computed
@@ -110,3 +126,17 @@ table-right = all-right table computed
 pub level-by-level : cheaper ltZ (pos 0 ∷ pos 900 ∷ []) (pos 1 ∷ pos 0 ∷ []) ≡ true
 unfolding cheaper
 level-by-level = refl
+
+-- and (-5, 900) than (-3, 0)
+pub below-zero : cheaper ltZ (negsuc 4 ∷ pos 900 ∷ []) (negsuc 2 ∷ pos 0 ∷ []) ≡ true
+unfolding cheaper
+below-zero = refl
+
+-- "A level's lower bound starts at the sum of its negative weights"; W sums sizes
+pub starts-below : starts rewarded ≡ negsuc 3 ∷ negsuc 8 ∷ []
+unfolding level totalℤ
+starts-below = refl
+
+pub weighs-sizes : W rewarded ≡ 13
+unfolding level total
+weighs-sizes = refl

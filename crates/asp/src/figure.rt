@@ -47,6 +47,17 @@ pub fn equal_at<'a>(a: &'a [i64], b: &'a [i64], i: usize) -> bool
     equal(figure_at(a, i), figure_at(b, i))
 }
 
+// A figure without its sign. One below 0 is raised by one before it is turned: the least figure has no positive one.
+pub fn size(x: i64) -> u64
+    ensures { λ r. ⌜ r ≡ natAbs x ⌝ }
+{
+    if x < 0 {
+        ((-(x + 1)) as u64) + 1
+    } else {
+        x as u64
+    }
+}
+
 // A figure of a table.
 pub fn figure_at(t: &[i64], i: usize) -> i64
     requires { ⌜ i < length (now t) ⌝ }

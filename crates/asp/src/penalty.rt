@@ -12,8 +12,7 @@ use crate::table;
 pub fn size(w: i32) -> u32
     ensures { λ r. ⌜ r ≡ natAbs w ⌝ }
 {
-    let x = figure::wide(w);
-    if x < 0 { (-x) as u32 } else { x as u32 }
+    figure::size(figure::wide(w)) as u32
 }
 
 // The literal that costs, for an entry of literal `l` and weight `w`.

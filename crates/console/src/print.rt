@@ -1,4 +1,6 @@
 // The service's answers, on standard output.
+use asp::figure::size;
+use asp::figure::wide;
 use libc::STDOUT_FILENO;
 use planner::service::Status;
 
@@ -24,14 +26,17 @@ pub fn status(s: Status) {
     }
 }
 
-// A figure after a space.
-fn figure(n: u64) {
+// A figure after a space, its sign at its digits.
+fn figure(f: i64) {
     text(b" ");
-    number(n);
+    if f < 0 {
+        text(b"-");
+    }
+    number(size(f));
 }
 
 // The first k of the figures, each after a space; `-` for each where there are none.
-pub fn figures(given: bool, figures: [u64; 8], k: usize) {
+pub fn figures(given: bool, figures: [i64; 8], k: usize) {
     let mut i: usize = 0;
     while i < 8 {
         if k <= i {
@@ -46,17 +51,6 @@ pub fn figures(given: bool, figures: [u64; 8], k: usize) {
     }
 }
 
-// A priority, with its sign.
-fn priority(p: i32) {
-    text(b" ");
-    if p < 0 {
-        text(b"-");
-        number((0 - (p as i64)) as u64);
-        return;
-    }
-    number(p as u64);
-}
-
 // The first k priorities, each after a space.
 pub fn priorities(ps: [i32; 9], k: usize) {
     let mut i: usize = 0;
@@ -64,7 +58,7 @@ pub fn priorities(ps: [i32; 9], k: usize) {
         if k <= i {
             return;
         }
-        priority(ps[i]);
+        figure(wide(ps[i]));
         i += 1;
     }
 }

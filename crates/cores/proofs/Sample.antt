@@ -9,8 +9,9 @@ use native.Mathlib.Omega.{arith}
 use lib.Dec.{eqb, ltb}
 use lib.IntN.{pos}
 use Rattle.asp.specs.Sets.{Set}
-use Rattle.asp.specs.Penalty.{Penalty, charge}
-use Rattle.asp.specs.Cost.{total}
+use Rattle.asp.specs.Program.{Entry}
+use Rattle.asp.specs.Cost.{totalℤ, cost, start}
+use Rattle.asp.specs.Penalty.{penalties, charge, above}
 use Rattle.cores.specs.Soft.{entry, derived, violated}
 use Rattle.cores.specs.Level.{Level, weighty, opened, recorded, coreFits}
 use Rattle.cores.specs.Identity.{problem, Good, Core, violatedWeight}
@@ -19,15 +20,15 @@ use Rattle.cores.proofs.Open.{opened-good}
 use Rattle.cores.proofs.Limits.{lower-bounds}
 use Rattle.cores.proofs.Members.{distinctb-yes, heavyb-yes}
 
-abbrev pay : ℕ → ℕ → Penalty
-pay a w = record { literal = pos a; weight = w }
+abbrev pay : ℕ → ℕ → Entry
+pay a w = record { priority = pos 0; literal = pos a; weight = pos w }
 
 -- three entries: atoms 1, 2 and 3 cost 7, 5 and 5
-abbrev pub sevenFiveFive : List Penalty
+abbrev pub sevenFiveFive : List Entry
 sevenFiveFive = pay 1 7 ∷ pay 2 5 ∷ pay 3 5 ∷ []
 
 abbrev pub sampleBefore : Level
-sampleBefore = opened sevenFiveFive
+sampleBefore = opened (penalties sevenFiveFive)
 
 -- the core: all three
 abbrev pub sampleCore : List ℕ
@@ -80,12 +81,12 @@ pub sample-unmet : map (violated everything (sampleAfter .kinds) (sampleAfter .c
 unfolding weighty violated
 sample-unmet = refl
 
-pub sample-cost : charge everything sevenFiveFive ≡ 17
-unfolding total
+pub sample-cost : cost everything sevenFiveFive ≡ pos 17
+unfolding totalℤ
 sample-cost = refl
 
-pub sample-identity : charge everything sevenFiveFive ≡ sampleAfter .lower + violatedWeight everything sampleAfter
-unfolding total weighty violated
+pub sample-identity : cost everything sevenFiveFive ≡ above (start sevenFiveFive) (sampleAfter .lower + violatedWeight everything sampleAfter)
+unfolding totalℤ weighty violated
 sample-identity = refl
 
 pub sample-parts : sampleAfter .lower + violatedWeight everything sampleAfter ≡ 5 + 2 + 10
@@ -97,7 +98,7 @@ sample-parts = refl
 abbrev pub Some : Set → Type 0
 Some M = M 1 ≡ false → M 2 ≡ false → M 3 ≡ false → ⊥
 
-pub sample-core : Core (problem Some sevenFiveFive) sampleBefore 5 sampleCore
+pub sample-core : Core (problem Some (penalties sevenFiveFive)) sampleBefore 5 sampleCore
 unfolding weighty violated
 sample-core = record {
   some = omega arith;
@@ -106,16 +107,16 @@ sample-core = record {
   refuted = λ M h. some-violated (violated M (sampleBefore .kinds) (sampleBefore .cores)) sampleCore (λ a. h (a .0) (a .1 .0) (a .1 .1 .0));
 }
 
-pub sample-good : Good (problem Some sevenFiveFive) sampleAfter
-sample-good = kept (problem Some sevenFiveFive) sampleBefore 5 sampleCore (opened-good Some sevenFiveFive) sample-core
+pub sample-good : Good (problem Some (penalties sevenFiveFive)) sampleAfter
+sample-good = kept (problem Some (penalties sevenFiveFive)) sampleBefore 5 sampleCore (opened-good Some (penalties sevenFiveFive)) sample-core
 
-pub sample-bound : (M : Set) → Some M → 5 ≤ charge M sevenFiveFive
-sample-bound M h = lower-bounds (problem Some sevenFiveFive) sampleAfter sample-good M h
+pub sample-bound : (M : Set) → Some M → 5 ≤ charge M (penalties sevenFiveFive)
+sample-bound M h = lower-bounds (problem Some (penalties sevenFiveFive)) sampleAfter sample-good M h
 
 -- ---- members with more than the stratum: remaining 9, 7, 7 at stratum 5 leave 4, 2, 2 and two new of 5; with all unmet 23 = 5 + 8 + 10
 
 abbrev highAfter : Level
-highAfter = recorded (opened (pay 1 9 ∷ pay 2 7 ∷ pay 3 7 ∷ [])) 5 sampleCore
+highAfter = recorded (opened (penalties (pay 1 9 ∷ pay 2 7 ∷ pay 3 7 ∷ []))) 5 sampleCore
 
 pub high-identity : 23 ≡ highAfter .lower + violatedWeight everything highAfter
 unfolding weighty violated

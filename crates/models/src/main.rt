@@ -150,17 +150,6 @@ fn print_set(m: [u8; 1025]) {
     io::write_all(STDOUT_FILENO, b"}");
 }
 
-// A figure without its sign.
-fn size(x: i64) -> u64
-    ensures { λ r. ⌜ r ≡ natAbs x ⌝ }
-{
-    if x < 0 {
-        ((-(x + 1)) as u64) + 1
-    } else {
-        x as u64
-    }
-}
-
 // A figure with its sign, after a space.
 fn print_figure(x: i64) {
     if x < 0 {
@@ -168,7 +157,7 @@ fn print_figure(x: i64) {
     } else {
         io::write_all(STDOUT_FILENO, b" ");
     }
-    io::print_decimal(STDOUT_FILENO, size(x));
+    io::print_decimal(STDOUT_FILENO, asp::figure::size(x));
 }
 
 fn print_costs(p: Stored, m: [u8; 1025])

@@ -7,10 +7,10 @@ use mathlib.Core.Option.{some}
 use Prim.Native.Nat.{ℕ, zero, suc, _+_, _-_, _*_, _^_, _≤_, _<_}
 use native.Mathlib.Numerals.{add-one}
 use native.Mathlib.Omega.{arith}
-use lib.Dec.{T, ltb, lt→ltb}
+use lib.Dec.{ltb, lt→ltb}
 use lib.IntN.{ℤ, pos}
 use lib.ListN.{length, getD, take}
-use lib.Signed.{ltZ}
+use lib.Signed.{ltZ, _<ℤ_}
 use lib.Seq.{getD-take}
 use Rattle.asp.specs.Sets.{Set, setOf}
 use Rattle.asp.specs.Program.{Entry, All}
@@ -233,10 +233,10 @@ module _ (S : Source) (f : FormedSource S) where
     settled-by Incoherent o i h = let z : _≡_ {A = ℕ} 0 1 = cc in absurd (omega arith)
     settled-by Full o i h = work-settled o (i .work)
 
-    level-unsettled : OnLevel S (s .work) → Inv (given S) (state Level) → T (ltZ (getD (lowersIn S s) (s .work .level) (pos 0)) (getD (uppersIn S s) (s .work .level) (pos 0)))
+    level-unsettled : OnLevel S (s .work) → Inv (given S) (state Level) → getD (lowersIn S s) (s .work .level) (pos 0) <ℤ getD (uppersIn S s) (s .work .level) (pos 0)
     level-unsettled o i =
-        rw (lower-at (s .work .level) (o .level) ∙ o .lower-is, upper-at (o .uppers) (s .work .level) (o .level) ∙ cost-above S f (bestIn s) (s .work .level), above-less (startAt L (s .work .level)) (s .work .tables .lower) charged)
-        (lt→ltb (s .work .tables .lower) charged below)
+        rw (lower-at (s .work .level) (o .level) ∙ o .lower-is, upper-at (o .uppers) (s .work .level) (o .level) ∙ cost-above S f (bestIn s) (s .work .level))
+        (record { lt = rw (above-less (startAt L (s .work .level)) (s .work .tables .lower) charged) (lt→ltb (s .work .tables .lower) charged below) })
       where
         charged : ℕ
         charged = charge (bestIn s) (penaltiesAt L (s .work .level))

@@ -4,9 +4,8 @@ use mathlib.Core.Path.{_≡_}
 use mathlib.Core.Bool.{Bool, true, false}
 use mathlib.Core.List.{List, map}
 use Prim.Native.Nat.{ℕ, suc, _+_, _*_, _^_, _≤_, _<_}
-use lib.Dec.{T}
 use lib.IntN.{ℤ, pos}
-use lib.Signed.{ltZ}
+use lib.Signed.{ltZ, _<ℤ_}
 use lib.ListN.{length, take, getD}
 use Rattle.asp.specs.Sets.{Set, setOf}
 use Rattle.asp.specs.Program.{Entry, All}
@@ -93,7 +92,7 @@ pub record Facts (S : Source) (c : ℕ) (s : Search) : Type 0 where
   -- "settled .. when the best model's cost there equals its lower bound; it then stays settled": on each level before the one in work the bounds are equal
   pub settled : isInWork (s .phase) ≡ true → (j : ℕ) → j < s .work .level → getD (lowersIn S s) j (pos 0) ≡ getD (uppersIn S s) j (pos 0)
   -- on the level in work they are not, while the status is running
-  pub unsettled : s .phase ≡ Level → T (ltZ (getD (lowersIn S s) (s .work .level) (pos 0)) (getD (uppersIn S s) (s .work .level) (pos 0)))
+  pub unsettled : s .phase ≡ Level → getD (lowersIn S s) (s .work .level) (pos 0) <ℤ getD (uppersIn S s) (s .work .level) (pos 0)
   -- "A level's lower bound starts at the sum of its negative weights, also on levels not yet in work."; before a model is found, and where there is none, no level is
   pub later : isInWork (s .phase) ≡ true → (j : ℕ) → s .work .level < j → j < many (S .levels) → getD (lowersIn S s) j (pos 0) ≡ startAt (S .levels) j
   pub start : hasModel (s .phase) ≡ false → (j : ℕ) → j < many (S .levels) → getD (lowersIn S s) j (pos 0) ≡ startAt (S .levels) j

@@ -13,7 +13,7 @@ use Rattle.aspif.specs.declared.text.Stored.{Stored}
 use Rattle.optimizer.specs.declared.state.Search.{Search}
 use Rattle.optimizer.specs.Source.{FormedSource}
 use Rattle.optimizer.specs.Facts.{hasModel, bestIn}
-use Rattle.optimizer.proofs.Alike.{SameSource, advance-same, advances-same, made-same}
+use Rattle.optimizer.proofs.Alike.{SameSource, advance-same, advances-same, made-same, fresh-same}
 use Rattle.optimizer.specs.declared.prepare.Preparation.{Preparation}
 use Rattle.planner.specs.declared.service.Service.{Service}
 use Rattle.planner.specs.Held.{service, sourceOf, statusOf}
@@ -141,16 +141,25 @@ module _ (p p′ : Stored) (ix ix′ : Preparation) (q : Search) (h : SameHeld (
 -- ---- a load of an accepted text, whatever was there
 
 loaded-alike : {P : Program} {w : List ℕ} {s u : Service} → FreshWith P w s → FreshWith P w u → Alike s u
-loaded-alike f g = record {
+loaded-alike {s = s} {u = u} f g = record {
   loaded = f .loaded ∙ sym (g .loaded);
   held = λ l. record {
     here = f .tables .formed;
     there = g .tables .formed;
     program = f .tables .program ∙ sym (g .tables .program);
     text = f .tables .text ∙ sym (g .tables .text);
-    search = f .search ∙ sym (g .search);
+    search = f .search ∙ fresh-same (sourceOf (s .stored) .levels) (sourceOf (u .stored) .levels) priorities entries ∙ sym (g .search);
   };
 }
+  where
+    programs : storedProgram (s .stored) ≡ storedProgram (u .stored)
+    programs = f .tables .program ∙ sym (g .tables .program)
+
+    priorities : sourceOf (s .stored) .levels .levels ≡ sourceOf (u .stored) .levels .levels
+    priorities = priorities-is (s .stored) (f .tables .formed) ∙ ap (λ (P : Program). P .priorities) programs ∙ sym (priorities-is (u .stored) (g .tables .formed))
+
+    entries : storedProgram (s .stored) .entries ≡ storedProgram (u .stored) .entries
+    entries = ap (λ (P : Program). P .entries) programs
 
 accepted-alike : (P : Program) (w : List ℕ) (s u : Service) {a b : Loads} {s′ u′ : Service} → AfterLoad (accepted P w) s (outcome a s′) → AfterLoad (accepted P w) u (outcome b u′)
     → (a ≡ b) × Alike s′ u′

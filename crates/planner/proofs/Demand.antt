@@ -6,13 +6,14 @@ use mathlib.Core.Logic.{inl, inr}
 use mathlib.Core.Option.{some}
 use Prim.Native.Nat.{ℕ, suc, _+_, _*_, _^_, _≤_, _<_}
 use native.Mathlib.Omega.{arith}
-use lib.Dec.{ltb}
+use lib.IntN.{ℤ, pos}
 use lib.ListN.{length, getD, drop, drop-of-length-le}
+use lib.Signed.{ltZ, _<ℤ_}
 use borrow.Author.Tests.{le-ltb}
 use Rattle.asp.specs.Sets.{Set, pick}
 use Rattle.asp.specs.Program.{Program, Entry, All, atoms}
 use Rattle.asp.specs.Stable.{Stable}
-use Rattle.asp.specs.Cost.{weight, W, costs, NoDearer}
+use Rattle.asp.specs.Cost.{weight, W, costs, starts, NoDearer}
 use Rattle.aspif_lines.specs.Text.{Answer, accepted, textOf}
 use Rattle.aspif.specs.Store.{storedProgram, storedText, WellFormed}
 use Rattle.aspif.specs.declared.text.Stored.{Stored}
@@ -20,8 +21,8 @@ use Rattle.aspif_lines.proofs.Spans.{append-nil, span-length}
 use Rattle.optimizer.specs.declared.state.Phase.{Phase}
 use Rattle.optimizer.specs.declared.state.Phase.the-variants.{First, Level, Optimum, Incoherent, Full}
 use Rattle.optimizer.specs.declared.state.Search.{Search}
-use Rattle.optimizer.specs.Source.{Source}
-use Rattle.optimizer.specs.State.{freshSearch}
+use Rattle.optimizer.specs.Source.{Source, many, startAt}
+use Rattle.optimizer.specs.State.{freshFor}
 use Rattle.optimizer.specs.Advance.{advancesOf, madeBy}
 use Rattle.optimizer.specs.Facts.{Facts, hasModel, isInWork, lowersIn, uppersIn, bestIn, costsIn}
 use Rattle.optimizer.proofs.Reached.{reached-facts}
@@ -35,7 +36,7 @@ use Rattle.planner.specs.Tally.{load, Does, Tally, tally, begin}
 use Rattle.planner.specs.Demand.{BestBy, RunIs, Claim, Demand, Demand3}
 use Rattle.planner.proofs.Answers.{at-true}
 use Rattle.planner.proofs.Moving.{at-false}
-use Rattle.planner.proofs.Link.{formed-source, priorities-is, levels-is, weight-is, costs-is}
+use Rattle.planner.proofs.Link.{formed-source, priorities-is, levels-is, weight-is, costs-is, start-is}
 use Rattle.planner.proofs.Counting.{figure-min, runs-is, status-running, status-optimum, status-incoherent, status-full, made-most, made-ends, run-advances}
 use Rattle.planner.proofs.Symbols.{orElse, name-by, shown-gone, shown-by, shown-without}
 use Rattle.planner.proofs.Together.{after, steppedTo, toldAs, Now, Together, together}
@@ -61,7 +62,7 @@ module _ (t : List ℕ) (p : Stored) (w : WellFormed p) (ix : Preparation) (k : 
   abbrev s : Service
   s = steppedTo p ix k
 
-  facts : Facts S (madeBy S k freshSearch) q
+  facts : Facts S (madeBy S k (freshFor (S .levels))) q
   facts = reached-facts S (formed-source p w) k
 
   written : hasModel (q .phase) ≡ true → (b : List ℕ) → modelCall s b ≡ filled s (modelBytes (bestIn q) (atoms P)) b
@@ -89,27 +90,27 @@ module _ (t : List ℕ) (p : Stored) (w : WellFormed p) (ix : Preparation) (k : 
           }
 
   optimum-of : statusOf (q .phase) ≡ status.Optimum
-      → (u : List ℕ) × (given (hasModel (q .phase)) (uppersIn S q) ≡ some u) × ((M : Set) → Stable (P .rules) M → NoDearer ltb u (costs P M))
+      → (u : List ℤ) × (given (hasModel (q .phase)) (uppersIn S q) ≡ some u) × ((M : Set) → Stable (P .rules) M → NoDearer ltZ u (costs P M))
   optimum-of h =
       let e : q .phase ≡ Optimum = status-optimum (q .phase) h in
       let m : hasModel (q .phase) ≡ true = ap hasModel e in (
         uppersIn S q,
         ap (λ (b : Bool). given b (uppersIn S q)) m,
         λ M g.
-            subst (λ (x : List ℕ). NoDearer ltb x (costs P M)) (sym (facts .upper m))
-            (subst (λ (x : List ℕ). NoDearer ltb (costsIn S (bestIn q)) x) (costs-is p w M) (facts .optimum e M g)),
+            subst (λ (x : List ℤ). NoDearer ltZ x (costs P M)) (sym (facts .upper m))
+            (subst (λ (x : List ℤ). NoDearer ltZ (costsIn S (bestIn q)) x) (costs-is p w M) (facts .optimum e M g)),
       )
 
-  few-of : statusOf (q .phase) ≡ status.Running → madeBy S k freshSearch < 2 ^ suc (atoms P) * (2 * W P + 1)
+  few-of : statusOf (q .phase) ≡ status.Running → madeBy S k (freshFor (S .levels)) < 2 ^ suc (atoms P) * (2 * W P + 1)
   few-of h =
-      subst (λ (n : ℕ). madeBy S k freshSearch < 2 ^ suc n * (2 * W P + 1)) (w .atoms)
-      (subst (λ (x : ℕ). madeBy S k freshSearch < 2 ^ suc (p .counts .atoms) * (2 * x + 1)) (weight-is p w) (facts .few (status-running (q .phase) h)))
+      subst (λ (n : ℕ). madeBy S k (freshFor (S .levels)) < 2 ^ suc n * (2 * W P + 1)) (w .atoms)
+      (subst (λ (x : ℕ). madeBy S k (freshFor (S .levels)) < 2 ^ suc (p .counts .atoms) * (2 * x + 1)) (weight-is p w) (facts .few (status-running (q .phase) h)))
 
-  patient-of : (u : List ℕ) → given (hasModel (q .phase)) (uppersIn S q) ≡ some u → atoms P < madeBy S k freshSearch
+  patient-of : (u : List ℤ) → given (hasModel (q .phase)) (uppersIn S q) ≡ some u → atoms P < madeBy S k (freshFor (S .levels))
   patient-of u e = go (hasModel (q .phase)) refl e
     where
-      go : (m : Bool) → hasModel (q .phase) ≡ m → given m (uppersIn S q) ≡ some u → atoms P < madeBy S k freshSearch
-      go true h e = subst (λ (n : ℕ). n < madeBy S k freshSearch) (w .atoms) (facts .patient h)
+      go : (m : Bool) → hasModel (q .phase) ≡ m → given m (uppersIn S q) ≡ some u → atoms P < madeBy S k (freshFor (S .levels))
+      go true h e = subst (λ (n : ℕ). n < madeBy S k (freshFor (S .levels))) (w .atoms) (facts .patient h)
       go false h e = let z : _≡_ {A = ℕ} 0 1 = cc in absurd (omega arith)
 
   runs-of : (b : ℕ) → RunIs b s
@@ -125,47 +126,50 @@ module _ (t : List ℕ) (p : Stored) (w : WellFormed p) (ix : Preparation) (k : 
 
   -- ---- the bounds
 
-  upper-is : {u : List ℕ} → given (hasModel (q .phase)) (uppersIn S q) ≡ some u → uppersIn S q ≡ u
+  upper-is : {u : List ℤ} → given (hasModel (q .phase)) (uppersIn S q) ≡ some u → uppersIn S q ≡ u
   upper-is {u} e = go (hasModel (q .phase)) e
     where
       go : (m : Bool) → given m (uppersIn S q) ≡ some u → uppersIn S q ≡ u
       go true e = ap (orElse (uppersIn S q)) e
       go false e = let z : _≡_ {A = ℕ} 0 1 = cc in absurd (omega arith)
 
-  settled-of : (u : List ℕ) → given (hasModel (q .phase)) (uppersIn S q) ≡ some u → (j : ℕ) → suc j < levelSeen (q .phase) (q .work .level) → getD (lowersIn S q) j 0 ≡ getD u j 0
+  settled-of : (u : List ℤ) → given (hasModel (q .phase)) (uppersIn S q) ≡ some u → (j : ℕ) → suc j < levelSeen (q .phase) (q .work .level) → getD (lowersIn S q) j (pos 0) ≡ getD u j (pos 0)
   settled-of u e j h = go (isInWork (q .phase)) refl h
     where
-      go : (b : Bool) → isInWork (q .phase) ≡ b → suc j < pick b (q .work .level + 1) 0 → getD (lowersIn S q) j 0 ≡ getD u j 0
-      go true i h = facts .settled i j (omega arith) ∙ ap (λ (x : List ℕ). getD x j 0) (upper-is e)
+      go : (b : Bool) → isInWork (q .phase) ≡ b → suc j < pick b (q .work .level + 1) 0 → getD (lowersIn S q) j (pos 0) ≡ getD u j (pos 0)
+      go true i h = facts .settled i j (omega arith) ∙ ap (λ (x : List ℤ). getD x j (pos 0)) (upper-is e)
       go false i h = absurd (omega arith)
 
   -- a running state with a model is on a level
-  on-level : (p : Phase) → statusOf p ≡ status.Running → {u : List ℕ} → given (hasModel p) (uppersIn S q) ≡ some u → p ≡ Level
+  on-level : (p : Phase) → statusOf p ≡ status.Running → {u : List ℤ} → given (hasModel p) (uppersIn S q) ≡ some u → p ≡ Level
   on-level First h e = let z : _≡_ {A = ℕ} 0 1 = cc in absurd (omega arith)
   on-level Level h e = refl
   on-level Optimum h e = let z : _≡_ {A = ℕ} 0 1 = cc in absurd (omega arith)
   on-level Incoherent h e = let z : _≡_ {A = ℕ} 0 1 = cc in absurd (omega arith)
   on-level Full h e = let z : _≡_ {A = ℕ} 0 1 = cc in absurd (omega arith)
 
-  level-is : (h : statusOf (q .phase) ≡ status.Running) {u : List ℕ} → given (hasModel (q .phase)) (uppersIn S q) ≡ some u → levelSeen (q .phase) (q .work .level) ≡ q .work .level + 1
+  level-is : (h : statusOf (q .phase) ≡ status.Running) {u : List ℤ} → given (hasModel (q .phase)) (uppersIn S q) ≡ some u → levelSeen (q .phase) (q .work .level) ≡ q .work .level + 1
   level-is h e = ap (λ (p : Phase). levelSeen p (q .work .level)) (on-level (q .phase) h e)
 
-  unsettled-of : statusOf (q .phase) ≡ status.Running → (u : List ℕ) → given (hasModel (q .phase)) (uppersIn S q) ≡ some u → (j : ℕ) → levelSeen (q .phase) (q .work .level) ≡ suc j
-      → getD (lowersIn S q) j 0 < getD u j 0
+  unsettled-of : statusOf (q .phase) ≡ status.Running → (u : List ℤ) → given (hasModel (q .phase)) (uppersIn S q) ≡ some u → (j : ℕ) → levelSeen (q .phase) (q .work .level) ≡ suc j
+      → getD (lowersIn S q) j (pos 0) <ℤ getD u j (pos 0)
   unsettled-of h u e j k =
       let i : q .work .level ≡ j = omega (arith, level-is h e) in
-      subst (λ (x : List ℕ). getD (lowersIn S q) j 0 < getD x j 0) (upper-is e)
-      (subst (λ (n : ℕ). getD (lowersIn S q) n 0 < getD (uppersIn S q) n 0) i (facts .unsettled (on-level (q .phase) h e)))
+      subst (λ (x : List ℤ). getD (lowersIn S q) j (pos 0) <ℤ getD x j (pos 0)) (upper-is e)
+      (subst (λ (n : ℕ). getD (lowersIn S q) n (pos 0) <ℤ getD (uppersIn S q) n (pos 0)) i (facts .unsettled (on-level (q .phase) h e)))
 
-  later-of : (statusOf (q .phase) ≡ status.Optimum → ⊥) → (j : ℕ) → levelSeen (q .phase) (q .work .level) ≤ j → getD (lowersIn S q) j 0 ≡ 0
-  later-of n j h = go (q .phase) refl n h
+  later-of : (statusOf (q .phase) ≡ status.Optimum → ⊥) → (j : ℕ) → levelSeen (q .phase) (q .work .level) ≤ j → j < length (P .priorities) → getD (lowersIn S q) j (pos 0) ≡ getD (starts P) j (pos 0)
+  later-of n j h l = go (q .phase) refl n h ∙ start-is p w j i
     where
-      go : (p : Phase) → q .phase ≡ p → (statusOf p ≡ status.Optimum → ⊥) → levelSeen p (q .work .level) ≤ j → getD (lowersIn S q) j 0 ≡ 0
-      go First e n h = facts .start (ap hasModel e) j
-      go Level e n h = facts .later (ap isInWork e) j (omega arith)
+      i : j < many (S .levels)
+      i = omega (arith, ap length (priorities-is p w))
+
+      go : (p : Phase) → q .phase ≡ p → (statusOf p ≡ status.Optimum → ⊥) → levelSeen p (q .work .level) ≤ j → getD (lowersIn S q) j (pos 0) ≡ startAt (S .levels) j
+      go First e n h = facts .start (ap hasModel e) j i
+      go Level e n h = facts .later (ap isInWork e) j (omega arith) i
       go Optimum e n h = absurd (n refl)
-      go Incoherent e n h = facts .start (ap hasModel e) j
-      go Full e n h = facts .later (ap isInWork e) j (omega arith)
+      go Incoherent e n h = facts .start (ap hasModel e) j i
+      go Full e n h = facts .later (ap isInWork e) j (omega arith) i
 
   meet-of : statusOf (q .phase) ≡ status.Optimum → given (hasModel (q .phase)) (uppersIn S q) ≡ some (lowersIn S q)
   meet-of h =
@@ -177,12 +181,12 @@ module _ (t : List ℕ) (p : Stored) (w : WellFormed p) (ix : Preparation) (k : 
       record {
         loaded = refl;
         standing = refl;
-        counted = facts .figure ∙ figure-min (madeBy S k freshSearch);
+        counted = facts .figure ∙ figure-min (madeBy S k (freshFor (S .levels)));
         priorities = refl;
         writes = λ b. refl;
         names = name-by p ix q;
         unnamed = shown-gone p ix q;
-        lower = λ M g. subst (NoDearer ltb (lowersIn S q)) (costs-is p w M) (facts .lower M g);
+        lower = λ M g. subst (NoDearer ltZ (lowersIn S q)) (costs-is p w M) (facts .lower M g);
         best = best-of;
         optimum = optimum-of;
         incoherent = λ h. facts .none-is (status-incoherent (q .phase) h);

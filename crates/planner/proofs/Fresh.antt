@@ -20,7 +20,7 @@ storedWith k =
       rules = replicate 8196 0;
       priorities = replicate 1536 (pos 0);
       literals = replicate 1536 (pos 0);
-      weights = replicate 1536 0;
+      weights = replicate 1536 (pos 0);
       levels = replicate 9 (pos 0);
       conditions = replicate 3072 (pos 0);
       symbols = replicate 2052 0;
@@ -30,5 +30,5 @@ storedWith k =
 pub empty-stored-is : {k : Counts} → k ≡ emptyCounts → storedWith k ≡ emptyStored
 empty-stored-is e = ap storedWith e
 
-pub fresh-is : {p : Stored} → p ≡ emptyStored → {ix : Preparation} → ix ≡ noPreparation → {q : Search} → q ≡ freshSearch → service false p ix q ≡ freshService
+pub fresh-is : {p : Stored} → p ≡ emptyStored → {ix : Preparation} → ix ≡ noPreparation → {q : Search} → q ≡ freshSearch (replicate 8 (pos 0)) → service false p ix q ≡ freshService
 fresh-is e d {q} f = ap₂ (λ (p : Stored) (ix : Preparation). service false p ix q) e d ∙ ap (service false emptyStored noPreparation) f

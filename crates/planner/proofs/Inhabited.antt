@@ -5,7 +5,7 @@ use mathlib.Core.List.{List, [], _∷_}
 use Prim.Native.Nat.{ℕ}
 use Rattle.aspif_lines.specs.Text.{Answer, accepted, refused, textOf}
 use Rattle.aspif.proofs.Witness.{accepted-stored}
-use Rattle.optimizer.specs.State.{freshSearch}
+use Rattle.optimizer.specs.State.{freshFor}
 use Rattle.optimizer.proofs.Preparing.{prepared-exist}
 use Rattle.planner.specs.declared.service.Service.{Service}
 use Rattle.planner.specs.Held.{service, freshService, sourceOf}
@@ -17,7 +17,7 @@ does-load : (t : List ℕ) (x : Answer) → textOf t ≡ x → (s : Service) →
 does-load t (accepted P w) e s =
     let (p, formed, program, text) = accepted-stored t P w e in
     let (ix, prepared) = prepared-exist (sourceOf p) (formed-source p formed) in
-    (accepts, service true p ix freshSearch, (refl, record { loaded = refl; tables = record { formed = formed; program = program; text = text }; prepared = prepared; search = refl }))
+    (accepts, service true p ix (freshFor (sourceOf p .levels)), (refl, record { loaded = refl; tables = record { formed = formed; program = program; text = text }; prepared = prepared; search = refl }))
 does-load t (refused c m) e s = (refusesAt c m, s, refl)
 
 does : (c : Call) (s : Service) → (a : Reply c) × (u : Service) × Does c s a u

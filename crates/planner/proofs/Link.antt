@@ -3,20 +3,22 @@ use mathlib.Core.Path.{_≡_, refl, sym, ap, _∙_}
 use mathlib.Core.List.{List, [], _∷_, map}
 use Prim.Native.Nat.{ℕ, zero, suc, _+_, _*_, _≤_, _<_}
 use native.Mathlib.Omega.{arith}
+use native.Mathlib.Nat.{zero-add}
 use native.Mathlib.Numerals.{add-one}
 use lib.IntN.{ℤ, pos}
 use lib.ListN.{length, getD, take, drop}
 use lib.Seq.{drop-cons, getD-take, length-take-le}
 use Rattle.asp.specs.Sets.{Set}
 use Rattle.asp.specs.Program.{Entry, Symbol, All, LiteralIn, atoms}
-use Rattle.asp.specs.Cost.{level, levels, weight, total, W, cost, costs}
+use Rattle.asp.specs.Cost.{level, levels, weight, total, W, cost, costs, start, starts}
 use Rattle.asp.specs.Tables.{span, rowAt, symbolAt, conditionAt}
 use Rattle.asp.specs.Paying.{SymbolFormed}
 use Rattle.asp.proofs.Spans.{map-span, all-map, span-at}
+use Rattle.cores.proofs.Spans.{getD-span}
 use Rattle.aspif.specs.Store.{storedProgram, WellFormed}
 use Rattle.aspif.specs.declared.text.Stored.{Stored}
 use Rattle.aspif_lines.proofs.Spans.{span-same}
-use Rattle.optimizer.specs.Source.{many, entriesIn, levelAt, levelsIn, rulesIn, FormedLevels, FormedSource}
+use Rattle.optimizer.specs.Source.{many, entriesIn, levelAt, startAt, levelsIn, rulesIn, FormedLevels, FormedSource}
 use Rattle.optimizer.specs.Facts.{costsIn, weightIn}
 use Rattle.indexing.proofs.Indexing.{ready}
 use Rattle.planner.specs.Held.{sourceOf}
@@ -93,6 +95,14 @@ module _ (p : Stored) (w : WellFormed p) where
 
   pub costs-is : (M : Set) → costsIn (sourceOf p) M ≡ costs (storedProgram p) M
   costs-is M = ap (map (cost M)) levels-is ∙ map-twice (cost M) (λ (q : ℤ). level q (storedProgram p .entries)) (storedProgram p .priorities)
+
+  -- where the bounds start
+  pub start-is : (j : ℕ) → j < many (sourceOf p .levels) → startAt (sourceOf p .levels) j ≡ getD (starts (storedProgram p)) j (pos 0)
+  start-is j h =
+      let L = sourceOf p .levels in
+      sym (getD-span (startAt L) 0 (many L) (pos 0) j h ∙ ap (startAt L) (zero-add j))
+      ∙ ap (λ (xs : List ℤ). getD xs j (pos 0))
+      (sym (map-span start (levelAt L) 0 (many L)) ∙ ap (map start) levels-is ∙ map-twice start (λ (q : ℤ). level q (storedProgram p .entries)) (storedProgram p .priorities))
 
   -- ---- symbols lie inside their tables
 

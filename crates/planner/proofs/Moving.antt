@@ -14,7 +14,7 @@ use Rattle.aspif.specs.declared.text.Loading.{Loading}
 use Rattle.aspif.specs.declared.text.Loading.the-variants.{Accepted, RefusedAt}
 use Rattle.optimizer.specs.declared.state.Search.{Search}
 use Rattle.optimizer.specs.Source.{Source, source, levelTables, many, FormedSource, Prepared}
-use Rattle.optimizer.specs.State.{freshSearch}
+use Rattle.optimizer.specs.State.{freshFor}
 use Rattle.optimizer.specs.Advance.{advanceOf, madeBy}
 use Rattle.optimizer.specs.Run.{AfterRun, afterRun, runOf, Reached}
 use Rattle.optimizer.specs.Facts.{Facts, hasModel, isInWork}
@@ -81,7 +81,7 @@ loaded-well p e f = subst (StoredAfter p) e f
 pub loaded-formed : (p : Stored) {a : Loading} → a ≡ Accepted → StoredAfter p a → (L : List ℤ) → L ≡ levelsUsed p → FormedSource (sourceBy p L)
 loaded-formed p e f L l = subst (λ (x : List ℤ). FormedSource (sourceBy p x)) (sym l) (formed-source p (loaded-well p e f))
 
-pub load-accepted : (s : Service) (x : Answer) (p : Stored) {a : Loading} → a ≡ Accepted → answerOf p a ≡ x → StoredAfter p a → {ix : Preparation} → PreparedFor p ix → {q : Search} → q ≡ freshSearch
+pub load-accepted : (s : Service) (x : Answer) (p : Stored) {a : Loading} → a ≡ Accepted → answerOf p a ≡ x → StoredAfter p a → {ix : Preparation} → PreparedFor p ix → {q : Search} → q ≡ (freshFor (sourceOf p .levels))
     → AfterLoad x s (outcome accepts (service true p ix q))
 load-accepted s x p e t f {ix} o {q} d =
     subst (λ (y : Answer). AfterLoad y s (outcome accepts (service true p ix q))) (ap (answerOf p) (sym e) ∙ t)
@@ -101,7 +101,7 @@ look-empty s l e = ap (λ (v : Seen). outcome v s) (e ∙ at-false (s .loaded) (
 -- the level in work is one of the levels
 pub level-few : (p : Stored) (q : Search) → WellFormed p → Reached (sourceOf p) q → isInWork (q .phase) ≡ true → q .work .level < 8
 level-few p q w r h =
-    let f = subst (Facts (sourceOf p) (madeBy (sourceOf p) (r .made) freshSearch)) (sym (r .is)) (reached-facts (sourceOf p) (r .source) (r .made)) in
+    let f = subst (Facts (sourceOf p) (madeBy (sourceOf p) (r .made) (freshFor (sourceOf p .levels)))) (sym (r .is)) (reached-facts (sourceOf p) (r .source) (r .made)) in
     omega (arith, f .level h, levels-many p w, w .within .levels)
 
 module _ (p : Stored) (w : WellFormed p) (q : Search) where

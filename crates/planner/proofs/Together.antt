@@ -11,7 +11,7 @@ use Rattle.asp.specs.Program.{Program}
 use Rattle.aspif_lines.specs.Text.{Answer, accepted, refused, textOf}
 use Rattle.aspif.specs.declared.text.Stored.{Stored}
 use Rattle.optimizer.specs.declared.state.Search.{Search}
-use Rattle.optimizer.specs.State.{isRunning, freshSearch}
+use Rattle.optimizer.specs.State.{isRunning, freshFor}
 use Rattle.optimizer.specs.Advance.{advanceOf, advancesOf, madeBy}
 use Rattle.optimizer.proofs.Advancing.{advances-plus}
 use Rattle.optimizer.specs.declared.prepare.Preparation.{Preparation}
@@ -43,13 +43,13 @@ module _ (s : Service) (b : List ℕ) where
 -- ---- what a list of calls leaves
 
 abbrev pub after : Stored → ℕ → Search
-after p k = advancesOf (sourceOf p) k freshSearch
+after p k = advancesOf (sourceOf p) k (freshFor (sourceOf p .levels))
 
 abbrev pub steppedTo : Stored → Preparation → ℕ → Service
 steppedTo p ix k = service true p ix (after p k)
 
 abbrev pub toldAs : List ℕ → Stored → ℕ → Tally
-toldAs t p k = tally (some t) (statusOf (after p k .phase)) (madeBy (sourceOf p) k freshSearch)
+toldAs t p k = tally (some t) (statusOf (after p k .phase)) (madeBy (sourceOf p) k (freshFor (sourceOf p .levels)))
 
 -- the text t is loaded, and k advances were asked for since, those after the end included
 pub record Now (t : List ℕ) (s : Service) (T : Tally) : Type 0 where
@@ -101,7 +101,7 @@ load-kept t s T a u d h = go (textOf t) refl d
 module _ (t : List ℕ) (p : Stored) (k : ℕ) where
   advanced-is : advanceOf (sourceOf p) (after p k) ≡ after p (k + 1)
   unfolding advancesOf
-  advanced-is = sym (advances-plus (sourceOf p) k 1 freshSearch)
+  advanced-is = sym (advances-plus (sourceOf p) k 1 (freshFor (sourceOf p .levels)))
 
   one-made : pick (isRunning (after p k .phase)) 1 0 ≡ madeBy (sourceOf p) 1 (after p k)
   unfolding madeBy
@@ -113,17 +113,17 @@ module _ (t : List ℕ) (p : Stored) (k : ℕ) where
 
   pub advance-told : feedAdvance (gives (statusOf (advanceOf (sourceOf p) (after p k) .phase))) (toldAs t p k) ≡ toldAs t p (k + 1)
   advance-told =
-      let m = madeBy (sourceOf p) k freshSearch in
+      let m = madeBy (sourceOf p) k (freshFor (sourceOf p .levels)) in
       ap₂ (λ (a : Status) (n : ℕ). tally (some t) a n)
       (ap (λ (q : Search). statusOf (q .phase)) advanced-is)
       (ap (λ (b : Bool). pick b (m + 1) m) (runs-is (after p k .phase)) ∙ risen (isRunning (after p k .phase)) m
-      ∙ ap (λ (n : ℕ). m + n) one-made ∙ sym (made-plus (sourceOf p) k 1 freshSearch))
+      ∙ ap (λ (n : ℕ). m + n) one-made ∙ sym (made-plus (sourceOf p) k 1 (freshFor (sourceOf p .levels))))
 
   pub run-told : (b : ℕ) → feedRun (gives (countOf (madeBy (sourceOf p) b (after p k)) (statusOf (advancesOf (sourceOf p) b (after p k) .phase)))) (toldAs t p k) ≡ toldAs t p (k + b)
   run-told b =
       ap₂ (λ (a : Status) (n : ℕ). tally (some t) a n)
-      (ap (λ (q : Search). statusOf (q .phase)) (sym (advances-plus (sourceOf p) k b freshSearch)))
-      (sym (made-plus (sourceOf p) k b freshSearch))
+      (ap (λ (q : Search). statusOf (q .phase)) (sym (advances-plus (sourceOf p) k b (freshFor (sourceOf p .levels)))))
+      (sym (made-plus (sourceOf p) k b (freshFor (sourceOf p .levels))))
 
 -- after a call on a loaded service that moved it
 moved : (t : List ℕ) {s : Service} {T : Tally} (n : Now t s T) (k : ℕ) {u : Service} {U : Tally} → u ≡ steppedTo (n .stored) (n .preparation) k → U ≡ toldAs t (n .stored) k → Now t u U
@@ -148,7 +148,7 @@ run-kept b s T a u d (inr (t, n)) =
     let p = n .stored in
     let k = n .steps in
     let d′ = d ∙ ap (λ (x : Service). runCall x b) (n .service-is) in
-    inr (t, moved t n (k + b) (ap (λ (x : Outcome (Says Count)). x .after) d′ ∙ ap (service true p (n .preparation)) (sym (advances-plus (sourceOf p) k b freshSearch))) (ap₂ feedRun (ap (λ (x : Outcome (Says Count)). x .answer) d′) (n .tally-is) ∙ run-told t p k b))
+    inr (t, moved t n (k + b) (ap (λ (x : Outcome (Says Count)). x .after) d′ ∙ ap (service true p (n .preparation)) (sym (advances-plus (sourceOf p) k b (freshFor (sourceOf p .levels))))) (ap₂ feedRun (ap (λ (x : Outcome (Says Count)). x .answer) d′) (n .tally-is) ∙ run-told t p k b))
 
 -- ---- any call, any list of calls
 

@@ -23,7 +23,7 @@ use Rattle.aspif.specs.declared.write.Written.{Written}
 use Rattle.aspif.specs.declared.write.Written.the-variants as written
 use Rattle.optimizer.specs.declared.state.Phase.{Phase}
 use Rattle.optimizer.specs.declared.state.Search.{Search}
-use Rattle.optimizer.specs.State.{freshSearch}
+use Rattle.optimizer.specs.State.{freshFor}
 use Rattle.optimizer.specs.Advance.{advanceOf, advancesOf, madeBy}
 use Rattle.optimizer.specs.Facts.{hasModel, isInWork, lowersIn, uppersIn, bestIn}
 use Rattle.planner.specs.declared.service.Service.{Service}
@@ -78,7 +78,7 @@ pub record FreshWith (P : Program) (t : List ℕ) (s : Service) : Type 0 where
   pub loaded : s .loaded ≡ true
   pub tables : TablesOf P t (s .stored)
   pub prepared : PreparedFor (s .stored) (s .prepared)
-  pub search : s .search ≡ freshSearch
+  pub search : s .search ≡ freshFor (sourceOf (s .stored) .levels)
 
 -- accepted, or the refusal's number and line
 pub data Loads : Type 0 where
@@ -143,12 +143,12 @@ pub record Seen : Type 0 where
   pub status : Status
   pub advances : ℕ
   pub priorities : List ℤ
-  pub lower : List ℕ
-  pub upper : Option (List ℕ)
+  pub lower : List ℤ
+  pub upper : Option (List ℤ)
   pub level : ℕ
   pub stratum : ℕ
 
-abbrev pub seen : Status → ℕ → List ℤ → List ℕ → Option (List ℕ) → ℕ → ℕ → Seen
+abbrev pub seen : Status → ℕ → List ℤ → List ℤ → Option (List ℤ) → ℕ → ℕ → Seen
 seen a c ps ls us j t = record { status = a; advances = c; priorities = ps; lower = ls; upper = us; level = j; stratum = t }
 
 abbrev pub given : {A : Type 0} → Bool → A → Option A

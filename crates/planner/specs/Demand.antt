@@ -4,12 +4,13 @@ use mathlib.Core.Bool.{true, false}
 use mathlib.Core.List.{List, [], _∷_}
 use mathlib.Core.Option.{Option, none, some}
 use Prim.Native.Nat.{ℕ, zero, suc, _+_, _*_, _^_, _≤_, _<_, min}
-use lib.Dec.{ltb}
+use lib.IntN.{ℤ, pos}
 use lib.ListN.{length, getD}
+use lib.Signed.{ltZ, _<ℤ_}
 use Rattle.asp.specs.Sets.{Set}
 use Rattle.asp.specs.Program.{Program, Entry, Symbol, All, atoms}
 use Rattle.asp.specs.Stable.{Stable, shown}
-use Rattle.asp.specs.Cost.{levels, weight, W, costs, NoDearer}
+use Rattle.asp.specs.Cost.{levels, weight, W, costs, starts, NoDearer}
 use Rattle.aspif_lines.specs.Text.{accepted, textOf}
 use Rattle.planner.specs.declared.service.Service.{Service}
 use Rattle.planner.specs.declared.service.Status.{Status}
@@ -33,7 +34,7 @@ nameBy s b (some y) = filled s (y .name) b
 
 -- ---- the best model: "the set that a model call with n lent bytes would then write; there is none exactly when that call gets 7"
 
-pub record Best (P : Program) (s : Service) (upper : List ℕ) : Type 0 where
+pub record Best (P : Program) (s : Service) (upper : List ℤ) : Type 0 where
   pub model : Set
   pub writes : (b : List ℕ) → modelCall s b ≡ filled s (modelBytes model (atoms P)) b
   pub exactly : (b : List ℕ) → length b ≡ atoms P → modelCall s b ≡ fills (gives (atoms P)) s (modelBytes model (atoms P))
@@ -49,7 +50,7 @@ pub record NoModel (P : Program) (s : Service) : Type 0 where
   pub shows : (i : ℕ) (y : Symbol) → nth (P .symbols) i ≡ some y → shownSays s i ≡ refuses 7
 
 -- by the upper bound that a look gives
-abbrev pub BestBy : Program → Service → Option (List ℕ) → Type 0
+abbrev pub BestBy : Program → Service → Option (List ℤ) → Type 0
 BestBy P s none = NoModel P s
 BestBy P s (some u) = Best P s u
 
@@ -82,17 +83,17 @@ pub record Claim (P : Program) (w : List ℕ) (s : Service) (T : Tally) : Type 0
   pub names : (i : ℕ) (b : List ℕ) → nameCall s i b ≡ nameBy s b (nth (P .symbols) i)
   pub unnamed : (i : ℕ) → nth (P .symbols) i ≡ none → shownSays s i ≡ refuses 9
   -- "The lower bound is no dearer than any stable model."
-  pub lower : (M : Set) → Stable (P .rules) M → NoDearer ltb (seenOf s .lower) (costs P M)
+  pub lower : (M : Set) → Stable (P .rules) M → NoDearer ltZ (seenOf s .lower) (costs P M)
   pub best : BestBy P s (seenOf s .upper)
   -- "At "optimum" there is one, and every other stable model costs at least as much."
-  pub optimum : T .held ≡ status.Optimum → (u : List ℕ) × (seenOf s .upper ≡ some u) × ((M : Set) → Stable (P .rules) M → NoDearer ltb u (costs P M))
+  pub optimum : T .held ≡ status.Optimum → (u : List ℤ) × (seenOf s .upper ≡ some u) × ((M : Set) → Stable (P .rules) M → NoDearer ltZ u (costs P M))
   -- "Once ended, the status is "incoherent" exactly when no stable model exists."
   pub incoherent : T .held ≡ status.Incoherent → (M : Set) → Stable (P .rules) M → ⊥
   pub without : isRunningStatus (T .held) ≡ false → ((M : Set) → Stable (P .rules) M → ⊥) → T .held ≡ status.Incoherent
   -- "With n atoms and total weight W, while the status is "running", fewer than 2^(n+1) × (2W + 1) advances have been made since the load."
   pub few : T .held ≡ status.Running → T .count < 2 ^ suc (atoms P) * (2 * W P + 1)
   -- a model needs all n atoms added, one an advance
-  pub patient : (u : List ℕ) → seenOf s .upper ≡ some u → atoms P < T .count
+  pub patient : (u : List ℤ) → seenOf s .upper ≡ some u → atoms P < T .count
   -- "The status is never "full" if each level weighs 90 or less."
   pub never-full : All (λ (l : List Entry). weight l ≤ 90) (levels P) → T .held ≡ status.Full → ⊥
   pub runs : (b : ℕ) → RunIs b s
@@ -100,11 +101,11 @@ pub record Claim (P : Program) (w : List ℕ) (s : Service) (T : Tally) : Type 0
   pub as-many : length (seenOf s .lower) ≡ length (P .priorities)
   -- "The level in work .. is settled .. when the best model's cost there equals its lower bound; it then stays settled": those before it (from 1) are, and while the
   -- status is running it is not; a level is in work once there is a model
-  pub settled : (u : List ℕ) → seenOf s .upper ≡ some u → (j : ℕ) → suc j < seenOf s .level → getD (seenOf s .lower) j 0 ≡ getD u j 0
-  pub in-work : T .held ≡ status.Running → (u : List ℕ) → seenOf s .upper ≡ some u → 1 ≤ seenOf s .level
-  pub unsettled : T .held ≡ status.Running → (u : List ℕ) → seenOf s .upper ≡ some u → (j : ℕ) → seenOf s .level ≡ suc j → getD (seenOf s .lower) j 0 < getD u j 0
-  -- "Levels not yet in work have lower bound 0."
-  pub later : (T .held ≡ status.Optimum → ⊥) → (j : ℕ) → seenOf s .level ≤ j → getD (seenOf s .lower) j 0 ≡ 0
+  pub settled : (u : List ℤ) → seenOf s .upper ≡ some u → (j : ℕ) → suc j < seenOf s .level → getD (seenOf s .lower) j (pos 0) ≡ getD u j (pos 0)
+  pub in-work : T .held ≡ status.Running → (u : List ℤ) → seenOf s .upper ≡ some u → 1 ≤ seenOf s .level
+  pub unsettled : T .held ≡ status.Running → (u : List ℤ) → seenOf s .upper ≡ some u → (j : ℕ) → seenOf s .level ≡ suc j → getD (seenOf s .lower) j (pos 0) <ℤ getD u j (pos 0)
+  -- "A level's lower bound starts at the sum of its negative weights, also on levels not yet in work.": from the load on, and also at incoherent
+  pub later : (T .held ≡ status.Optimum → ⊥) → (j : ℕ) → seenOf s .level ≤ j → j < length (P .priorities) → getD (seenOf s .lower) j (pos 0) ≡ getD (starts P) j (pos 0)
   -- "optimum (a model, every level settled)": no lower bound stays below the upper
   pub bounds-meet : T .held ≡ status.Optimum → seenOf s .upper ≡ some (seenOf s .lower)
 

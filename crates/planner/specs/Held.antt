@@ -33,7 +33,7 @@ emptyStored =
       rules = replicate 8196 0;
       priorities = replicate 1536 (pos 0);
       literals = replicate 1536 (pos 0);
-      weights = replicate 1536 0;
+      weights = replicate 1536 (pos 0);
       levels = replicate 9 (pos 0);
       conditions = replicate 3072 (pos 0);
       symbols = replicate 2052 0;
@@ -42,7 +42,7 @@ emptyStored =
 
 -- "A fresh service has nothing loaded and status empty."
 abbrev pub freshService : Service
-freshService = service false emptyStored noPreparation freshSearch
+freshService = service false emptyStored noPreparation (freshSearch (replicate 8 (pos 0)))
 
 -- ---- a program is loaded
 

@@ -32,7 +32,13 @@ pub fn load(s: Service, text: &[u8]) -> Loaded
                 &p.weights,
                 c.entries,
             );
-            let q = optimizer::run::fresh();
+            let q = optimizer::run::fresh_for(
+                used(&levels, c.levels),
+                &p.priorities,
+                &p.literals,
+                &p.weights,
+                c.entries,
+            );
             let next = Service {
                 loaded: true,
                 stored: p,

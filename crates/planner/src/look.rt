@@ -16,9 +16,9 @@ pub struct View {
     pub advances: u64,
     pub levels: usize,
     pub priorities: [i32; 9],
-    pub lowers: [u64; 8],
+    pub lowers: [i64; 8],
     pub bounded: bool,
-    pub uppers: [u64; 8],
+    pub uppers: [i64; 8],
     pub level: usize,
     pub stratum: u32,
 }

@@ -1,4 +1,4 @@
--- `models::size` meets its contract. A figure below 0 is raised by one first, so that the least figure of 64 bits has a size too.
+-- `asp::figure::size` meets its contract. A figure below 0 is raised by one first, so that the least figure of 64 bits has a size too.
 -- Assumes nothing.
 use mathlib.Core.Path.{_≡_, refl, _∙_}
 use mathlib.Core.Bool.{true}
@@ -11,9 +11,9 @@ use mir.Val.{SFits, Fits, toZ, ofZ}
 use mir.Facts.{toZ-ofZ}
 use borrow.Author.Tests.{ltb-true, lt-ltb}
 use borrow.Author.Needs.{needs}
 use Rattle.asp.proofs.Signed.{negated, cast}
-use Rattle.models.proofs.size.Statement.{statement}
-use Rattle.models.proofs.size.Tie as tie
+use Rattle.asp.proofs.figure.size.Statement.{statement}
+use Rattle.asp.proofs.figure.size.Tie as tie
 
 raised : (n : ℕ) → negsuc n +ℤ pos 1 ≡ negℤ (pos n)
 raised zero = refl
