@@ -81,7 +81,11 @@ loaded-well p e f = subst (StoredAfter p) e f
 pub loaded-formed : (p : Stored) {a : Loading} → a ≡ Accepted → StoredAfter p a → (L : List ℤ) → L ≡ levelsUsed p → FormedSource (sourceBy p L)
 loaded-formed p e f L l = subst (λ (x : List ℤ). FormedSource (sourceBy p x)) (sym l) (formed-source p (loaded-well p e f))
 
-pub load-accepted : (s : Service) (x : Answer) (p : Stored) {a : Loading} → a ≡ Accepted → answerOf p a ≡ x → StoredAfter p a → {ix : Preparation} → PreparedFor p ix → {q : Search} → q ≡ (freshFor (sourceOf p .levels))
+-- an optimization begun with the levels that are lent
+pub begun-by : (p : Stored) (L : List ℤ) → L ≡ levelsUsed p → {q : Search} → q ≡ freshFor (sourceBy p L .levels) → q ≡ freshFor (sourceOf p .levels)
+begun-by p L e d = d ∙ ap (λ (l : List ℤ). freshFor (sourceBy p l .levels)) e
+
+pub load-accepted : (s : Service) (x : Answer) (p : Stored) {a : Loading} → a ≡ Accepted → answerOf p a ≡ x → StoredAfter p a → {ix : Preparation} → PreparedFor p ix → {q : Search} → q ≡ freshFor (sourceOf p .levels)
     → AfterLoad x s (outcome accepts (service true p ix q))
 load-accepted s x p e t f {ix} o {q} d =
     subst (λ (y : Answer). AfterLoad y s (outcome accepts (service true p ix q))) (ap (answerOf p) (sym e) ∙ t)

@@ -14,26 +14,27 @@ pub struct Loaded {
 pub fn load(s: Service, text: &[u8]) -> Loaded
     ensures { λ r. ⌜ AfterLoad (textOf (now (text .entry))) s (outcome (saysLoad (r .answer)) (r .service)) ⌝ }
 {
-    let l = aspif::text::load(text);
-    let answer = l.answer;
+    let loaded = aspif::text::load(text);
+    let answer = loaded.answer;
     match answer {
         Loading::Accepted => {
-            let p = l.stored;
+            let p = loaded.stored;
             let c = p.counts;
             let levels = p.levels;
+            let used_levels = used(&levels, c.levels);
             let x = optimizer::prepare::prepare(
                 c.atoms,
                 &p.pool,
                 &p.rules,
                 c.rules,
-                used(&levels, c.levels),
+                used_levels,
                 &p.priorities,
                 &p.literals,
                 &p.weights,
                 c.entries,
             );
             let q = optimizer::run::fresh_for(
-                used(&levels, c.levels),
+                used_levels,
                 &p.priorities,
                 &p.literals,
                 &p.weights,
