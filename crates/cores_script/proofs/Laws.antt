@@ -7,17 +7,19 @@ use Prim.Native.Nat.{ℕ, zero, suc, _+_, _-_, _≤_, _<_, zero-le}
 use native.Mathlib.Omega.{arith}
 use lib.Dec.{eqb}
 use lib.IntN.{ℤ, pos, negsuc, negℤ, natAbs}
-use lib.ListN.{length, getD, set, replicate, length-set, length-replicate, getD-replicate, List·getD-eq-default}
+use lib.ListN.{length, getD, set, replicate, length-map, length-set, length-replicate, getD-replicate, List·getD-eq-default}
 use lib.Seq.{getD-set-same, getD-set-other, length-sets}
 use borrow.Author.Tests.{eqb-true, eqb-false}
 use Rattle.asp.specs.Program.{Entry, All}
 use Rattle.asp.specs.Cost.{level}
+use Rattle.asp.specs.Penalty.{Penalty, penalty, penalties}
 use Rattle.asp.specs.Tables.{span, entryAt, entriesOf}
+use Rattle.asp.proofs.Penalties.{paid-atom}
 use Rattle.asp.proofs.Signed.{abs-neg, clash, small-fits}
 use mir.Syntax.{w32}
 use mir.Val.{toZ, ofZ}
 use mir.Facts.{toZ-ofZ}
-use Rattle.cores.specs.Level.{FormedEntries, assumedFrom}
+use Rattle.cores.specs.Level.{FormedPenalties, assumedFrom}
 use Rattle.cores.specs.declared.level.LevelTables.{LevelTables}
 use Rattle.cores.specs.Tables.{emptyTables, openedTables, SoundTables}
 use Rattle.cores.specs.Columns.{ListedPlaces, listedPlaces, assumedOf}
@@ -69,31 +71,24 @@ store-small ls k l n h s all i = go (eqb i k) refl
     go true e = rw (eqb-true i k e, getD-set-same ls k l (pos 0) (omega arith)) s
     go false e = rw (getD-set-other ls k i l (pos 0) (eqb-false i k e)) (all i)
 
-pub store-weight : (ws : List ℕ) (k w : ℕ) → length ws ≡ 512 → k < 512 → w ≤ 1000000 → ((i : ℕ) → getD ws i 0 ≤ 1000000) → (i : ℕ) → getD (set ws k w) i 0 ≤ 1000000
-store-weight ws k w n h s all i = go (eqb i k) refl
-  where
-    go : (b : Bool) → eqb i k ≡ b → getD (set ws k w) i 0 ≤ 1000000
-    go true e = rw (eqb-true i k e, getD-set-same ws k w 0 (omega arith)) s
-    go false e = rw (getD-set-other ws k i w 0 (eqb-false i k e)) (all i)
-
-all-span : {A : Type 0} (P : A → Type 0) (f : ℕ → A) (i k : ℕ) → ((p : ℕ) → P (f p)) → All P (span f i k)
+all-span : (P : Penalty → Type 0) (f : ℕ → Entry) (i k : ℕ) → ((p : ℕ) → P (penalty (f p))) → All P (penalties (span f i k))
 unfolding span
 all-span P f i zero h = tt
 all-span P f i (suc k) h = (h i, all-span P f (i + 1) k h)
 
-pub opens-sound : (ps ls : List ℤ) (ws : List ℕ) (n : ℕ) (q : ℤ) → n ≤ 512 → ((i : ℕ) → natAbs (getD ls i (pos 0)) ≤ 1024) → ((i : ℕ) → getD ws i 0 ≤ 1000000)
-    → SoundTables (openedTables (level q (entriesOf ps ls ws n)))
+pub opens-sound : (ps ls ws : List ℤ) (n : ℕ) (q : ℤ) → n ≤ 512 → ((i : ℕ) → natAbs (getD ls i (pos 0)) ≤ 1024) → ((i : ℕ) → natAbs (getD ws i (pos 0)) ≤ 1024)
+    → SoundTables (openedTables (penalties (level q (entriesOf ps ls ws n))))
 opens-sound ps ls ws n q h a w =
-    opened-sound (level q (entriesOf ps ls ws n)) (level-formed (entriesOf ps ls ws n) (record {
-      few = omega (arith, length-span (entryAt ps ls ws) 0 n);
-      atoms = all-span (λ (e : Entry). natAbs (e .literal) ≤ 1024) (entryAt ps ls ws) 0 n a;
-      weights = all-span (λ (e : Entry). e .weight ≤ 1000000) (entryAt ps ls ws) 0 n w;
+    opened-sound (penalties (level q (entriesOf ps ls ws n))) (level-formed (entriesOf ps ls ws n) (record {
+      few = omega (arith, length-map (entriesOf ps ls ws n) penalty, length-span (entryAt ps ls ws) 0 n);
+      atoms = all-span (λ (p : Penalty). natAbs (p .literal) ≤ 1024) (entryAt ps ls ws) 0 n (λ i. rw (paid-atom (getD ls i (pos 0)) (getD ws i (pos 0))) (a i));
+      weights = all-span (λ (p : Penalty). p .weight ≤ 1000000) (entryAt ps ls ws) 0 n (λ i. omega (arith, w i));
     }) q)
 
 -- ---- the world
 
 module _ (w : World) (f : Fine w) where
-  pub fine-put : w .entries < 512 → (q l : ℤ) → natAbs l ≤ 1024 → (k : ℕ) → k ≤ 1000000 → Fine (record {
+  pub fine-put : w .entries < 512 → (q l : ℤ) → natAbs l ≤ 1024 → (k : ℤ) → natAbs k ≤ 1024 → Fine (record {
     priorities = set (w .priorities) (w .entries) q;
     literals = set (w .literals) (w .entries) l;
     weights = set (w .weights) (w .entries) k;
@@ -106,14 +101,14 @@ module _ (w : World) (f : Fine w) where
     literals-len = rw length-set (f .literals-len);
     weights-len = rw length-set (f .weights-len);
     atoms = store-small (w .literals) (w .entries) l (f .literals-len) h s (f .atoms);
-    weights = store-weight (w .weights) (w .entries) k (f .weights-len) h b (f .weights);
+    weights = store-small (w .weights) (w .entries) k (f .weights-len) h b (f .weights);
     sound = f .sound;
   }
 
   pub fine-tables : (t : LevelTables) → SoundTables t → Fine (record { priorities = w .priorities; literals = w .literals; weights = w .weights; entries = w .entries; tables = t })
   fine-tables t s = record { few = f .few; priorities-len = f .priorities-len; literals-len = f .literals-len; weights-len = f .weights-len; atoms = f .atoms; weights = f .weights; sound = s }
 
-  pub fine-open : {t : LevelTables} (q : ℤ) → t ≡ openedTables (level q (entriesOf (w .priorities) (w .literals) (w .weights) (w .entries))) → SoundTables t
+  pub fine-open : {t : LevelTables} (q : ℤ) → t ≡ openedTables (penalties (level q (entriesOf (w .priorities) (w .literals) (w .weights) (w .entries)))) → SoundTables t
   fine-open q e = rw e (opens-sound (w .priorities) (w .literals) (w .weights) (w .entries) q (f .few) (f .atoms) (f .weights))
 
 pub some-core : (ms : List ℕ) → (length ms ≡ 0 → ⊥) → 1 ≤ length ms
@@ -130,21 +125,14 @@ zeros i = go (below-or i 512)
     go (inl h) = rw (getD-replicate 512 i (pos 0) (pos 0) h) zero-le
     go (inr h) = rw (List·getD-eq-default (replicate 512 (pos 0)) (pos 0) {n = i} (rw length-replicate h)) zero-le
 
-none : (i : ℕ) → getD (replicate 512 0) i 0 ≤ 1000000
-none i = go (below-or i 512)
-  where
-    go : (i < 512) ⊎ (512 ≤ i) → getD (replicate 512 0) i 0 ≤ 1000000
-    go (inl h) = rw (getD-replicate {A = ℕ} 512 i 0 0 h) zero-le
-    go (inr h) = rw (List·getD-eq-default {A = ℕ} (replicate 512 0) 0 {n = i} (rw length-replicate h)) zero-le
-
-pub fine-fresh : {t : LevelTables} → t ≡ emptyTables → Fine (record { priorities = replicate 512 (pos 0); literals = replicate 512 (pos 0); weights = replicate 512 0; entries = 0; tables = t })
+pub fine-fresh : {t : LevelTables} → t ≡ emptyTables → Fine (record { priorities = replicate 512 (pos 0); literals = replicate 512 (pos 0); weights = replicate 512 (pos 0); entries = 0; tables = t })
 fine-fresh e = record {
   few = zero-le;
   priorities-len = length-replicate 512 (pos 0);
   literals-len = length-replicate 512 (pos 0);
-  weights-len = length-replicate {A = ℕ} 512 0;
+  weights-len = length-replicate 512 (pos 0);
   atoms = zeros;
-  weights = none;
+  weights = zeros;
   sound = rw e empty-sound;
 }
 

@@ -13,7 +13,7 @@ pub record Fine (w : World) : Type 0 where
   pub literals-len : length (w .literals) ≡ 512
   pub weights-len : length (w .weights) ≡ 512
   pub atoms : (i : ℕ) → natAbs (getD (w .literals) i (pos 0)) ≤ 1024
-  pub weights : (i : ℕ) → getD (w .weights) i 0 ≤ 1000000
+  pub weights : (i : ℕ) → natAbs (getD (w .weights) i (pos 0)) ≤ 1024
   pub sound : SoundTables (w .tables)
 
 -- after a statement that ends at a place of the text

@@ -1,5 +1,5 @@
 // Plays a script of numbers from standard input over crate `cores`, and prints figures. tests/cores.py writes the script and computes the figures.
-//   1 PRIORITY SIGN ATOM WEIGHT   an entry; SIGN is 1 for a default negation, else 0
+//   1 PRIORITY SIGN ATOM MINUS WEIGHT   an entry; SIGN is 1 for a default negation, MINUS for a weight below 0, else 0; weights up to 1,024 here
 //   2 PRIORITY   opens the level: prints its soft literals, the first stratum
 //   3 S N PLACES   records a core at stratum S: prints 1 if full, the lower bound, soft literals, members
 //   4 N ATOMS   a set: prints the remaining weights of what it violates
@@ -23,7 +23,7 @@ mod number;
 pub struct World {
     pub priorities: [i32; 512],
     pub literals: [i32; 512],
-    pub weights: [u32; 512],
+    pub weights: [i32; 512],
     pub entries: usize,
     pub tables: LevelTables,
 }
@@ -46,17 +46,18 @@ fn fresh() -> World
     }
 }
 
-fn literal(sign: usize, a: usize) -> i32
+// A literal or a weight, by its sign.
+fn signed(minus: usize, a: usize) -> i32
     requires { ⌜ a ≤ 1024 ⌝ }
     ensures { λ r. ⌜ natAbs r ≤ 1024 ⌝ }
 {
-    if sign == 0 {
+    if minus == 0 {
         return asp::literal::positive(a);
     }
     asp::literal::negative(a)
 }
 
-fn put_entry(w: World, p: usize, sign: usize, a: usize, k: usize) -> World
+fn put_entry(w: World, p: usize, sign: usize, a: usize, minus: usize, k: usize) -> World
     requires { ⌜ Fine w ⌝ }
     ensures { λ r. ⌜ Fine r ⌝ }
 {
@@ -70,7 +71,7 @@ fn put_entry(w: World, p: usize, sign: usize, a: usize, k: usize) -> World
     if 1024 < a {
         return w;
     }
-    if 1000000 < k {
+    if 1024 < k {
         return w;
     }
     let mut priorities = w.priorities;
@@ -78,10 +79,11 @@ fn put_entry(w: World, p: usize, sign: usize, a: usize, k: usize) -> World
     let mut weights = w.weights;
     let tables = w.tables;
     let q = asp::literal::positive(p);
-    let l = literal(sign, a);
+    let l = signed(sign, a);
+    let z = signed(minus, k);
     priorities[n] = q;
     literals[n] = l;
-    weights[n] = k as u32;
+    weights[n] = z;
     World {
         priorities,
         literals,
@@ -275,8 +277,9 @@ fn entry(w: World, text: &[u8], p: usize, from: usize) -> Turn
 {
     let sign = read(text, from);
     let a = read(text, sign.next);
-    let k = read(text, a.next);
-    let u = put_entry(w, p, sign.value, a.value, k.value);
+    let minus = read(text, a.next);
+    let k = read(text, minus.next);
+    let u = put_entry(w, p, sign.value, a.value, minus.value, k.value);
     Turn {
         world: u,
         next: k.next,

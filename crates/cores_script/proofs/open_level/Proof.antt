@@ -18,7 +18,7 @@ slice-aggregate-opened-3 : tie.Need-slice-aggregate-opened-3
 slice-aggregate-opened-3 c = search needs
 
 opened-requires : tie.Need-opened-requires
-opened-requires c κs = search needs
+opened-requires c κs = (search needs, search needs, search needs, search needs, λ i h. c .before .before .before .before .before .before .before .pre .0 .atoms i)
 
 returns : tie.Need-returns
 returns c =

@@ -20,8 +20,11 @@ returns-4 c = search needs
 positive-requires : tie.Need-positive-requires
 positive-requires c κs = search needs
 
-literal-requires : tie.Need-literal-requires
-literal-requires c κs = search needs
+signed-requires : tie.Need-signed-requires
+signed-requires c κs = search needs
+
+signed-requires-2 : tie.Need-signed-requires-2
+signed-requires-2 c κs = search needs
 
 mul-priorities : tie.Need-mul-priorities
 mul-priorities c = search needs
@@ -35,22 +38,19 @@ mul-literals c = search needs
 array-set-from-literals : tie.Need-array-set-from-literals
 array-set-from-literals c = search needs
 
-cast-weights : tie.Need-cast-weights
-cast-weights c = search needs
-
 mul-weights : tie.Need-mul-weights
 mul-weights c = search needs
 
-array-write-weights : tie.Need-array-write-weights
-array-write-weights c = search needs
+array-set-from-weights : tie.Need-array-set-from-weights
+array-set-from-weights c = search needs
 
-add-t14 : tie.Need-add-t14
-add-t14 c = search needs
+add-t16 : tie.Need-add-t16
+add-t16 c = search needs
 
 returns-5 : tie.Need-returns-5
 returns-5 c =
-    let s = c .before .before .before .before .before .before .before .before .before .before in
-    fine-put (s .args .w) (s .pre) (search needs) _ _ (back-small (c .literal .result) (c .literal .ensures)) (s .args .k) (search needs)
+    let s = c .before .before .before .before .before .before .before .before .before .before .before in
+    fine-put (s .args .w) (s .pre) (search needs) _ _ (back-small (c .before .signed .result) (c .before .signed .ensures)) _ (back-small (c .signed2 .result) (c .signed2 .ensures))
 
 pub put-entry-spec : {M : Type 1} → statement M
 put-entry-spec =
@@ -61,13 +61,13 @@ put-entry-spec =
     returns-3
     returns-4
     positive-requires
-    literal-requires
+    signed-requires
+    signed-requires-2
     mul-priorities
     array-set-from-priorities
     mul-literals
     array-set-from-literals
-    cast-weights
     mul-weights
-    array-write-weights
-    add-t14
+    array-set-from-weights
+    add-t16
     returns-5)

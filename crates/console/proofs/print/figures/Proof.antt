@@ -25,8 +25,8 @@ returns c = search needs
 mul-figure : tie.Need-mul-figure Inv-loop μ-loop
 mul-figure c = search needs
 
-array-read-figure : tie.Need-array-read-figure Inv-loop μ-loop
-array-read-figure c = search needs
+array-copy-out-figure : tie.Need-array-copy-out-figure Inv-loop μ-loop
+array-copy-out-figure c = search needs
 
 figure-requires : tie.Need-figure-requires Inv-loop μ-loop
 figure-requires c κs = search needs
@@ -58,7 +58,7 @@ figures-spec =
     loop-holds
     returns
     mul-figure
-    array-read-figure
+    array-copy-out-figure
     figure-requires
     slice-aggregate-text
     text-requires

@@ -7,7 +7,8 @@ use Rattle.console.proofs.print.priorities.Statement.{statement}
 use Rattle.console.proofs.print.priorities.Tie as tie
 use Rattle.console.proofs.print.priorities.Reads as reads
 use Rattle.console.proofs.print.priorities.Lts as lts
-use Rattle.console.proofs.print.priority.Reads as priority-reads
+use Rattle.asp.proofs.figure.wide.Reads as wide-reads
+use Rattle.console.proofs.print.figure.Reads as figure-reads
 
 abbrev Inv-loop : tie.InvT-loop
 Inv-loop k ps i₀ i = length ps ≡ 9
@@ -21,14 +22,17 @@ loop-holds c = search needs
 returns : tie.Need-returns Inv-loop μ-loop
 returns c = search needs
 
-mul-priority : tie.Need-mul-priority Inv-loop μ-loop
-mul-priority c = search needs
+mul-wide : tie.Need-mul-wide Inv-loop μ-loop
+mul-wide c = search needs
 
-array-copy-out-priority : tie.Need-array-copy-out-priority Inv-loop μ-loop
-array-copy-out-priority c = search needs
+array-copy-out-wide : tie.Need-array-copy-out-wide Inv-loop μ-loop
+array-copy-out-wide c = search needs
 
-priority-requires : tie.Need-priority-requires Inv-loop μ-loop
-priority-requires c κs = search needs
+wide-requires : tie.Need-wide-requires Inv-loop μ-loop
+wide-requires c κs = search needs
+
+figure-requires : tie.Need-figure-requires Inv-loop μ-loop
+figure-requires c κs = search needs
 
 add-i : tie.Need-add-i Inv-loop μ-loop
 add-i c = search needs
@@ -50,9 +54,10 @@ priorities-spec =
     μ-loop
     loop-holds
     returns
-    mul-priority
-    array-copy-out-priority
-    priority-requires
+    mul-wide
+    array-copy-out-wide
+    wide-requires
+    figure-requires
     add-i
     loop-less
     loop-again

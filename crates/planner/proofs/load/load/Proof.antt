@@ -36,13 +36,14 @@ enum-known-answer c = search needs
 
 returns : tie.Need-returns
 returns c =
-    let l = c .before .before .before .before .before .before .before .before .before .before .before .before .before .before .before .before .before .before .before .before .before .before .before .before .before .before .before in
-    let u = c .before .before .before .before .before .before .before .before .before .before .before .before .before .before .before .before .before .before .before .before in
-    let x = c .before .before .before .before .before .before .before .before in
+    let f = c in
+    let x = f .before .before .before .before .before .before .before .before in
+    let u = f .before .before .before .before .before .before .before .before .before .before .before .before .before .before .before .before .before .before .before .before in
+    let l = f .before .before .before .before .before .before .before .before .before .before .before .before .before .before .before .before .before .before .before .before .before .before .before .before .before .before .before in
     let p = l .load .result .stored in
-    load-accepted _ _ p (c .before .before .before .before .before .before .before .before .before .before .before .before .before .before .before .before .before .before .before .before .before .before .before .before .before .enum-told .given .1) (l .load .ensures .0) (l .load .ensures .1)
+    load-accepted _ _ p (f .before .before .before .before .before .before .before .before .before .before .before .before .before .before .before .before .before .before .before .before .before .before .before .before .before .enum-told .given .1) (l .load .ensures .0) (l .load .ensures .1)
     (prepared-for p (x .prepare .result) _ (u .used .ensures) (x .prepare .ensures))
-    (begun-by p _ (u .used .ensures) (c .fresh-for .ensures))
+    (begun-by p _ (u .used .ensures) (f .fresh-for .ensures))
 
 returns-2 : tie.Need-returns-2
 returns-2 c =

@@ -1,9 +1,9 @@
--- `cores_script::literal` meets its contract.
+-- `cores_script::signed` meets its contract.
 -- Assumes nothing.
 use borrow.Author.Needs.{needs}
 use Rattle.cores_script.proofs.Laws.{positive-small, negative-small, back-small}
-use Rattle.cores_script.proofs.literal.Statement.{statement}
-use Rattle.cores_script.proofs.literal.Tie as tie
+use Rattle.cores_script.proofs.signed.Statement.{statement}
+use Rattle.cores_script.proofs.signed.Tie as tie
 
 positive-requires : tie.Need-positive-requires
 positive-requires c κs = search needs
@@ -17,5 +17,5 @@ negative-requires c κs = search needs
 returns-2 : tie.Need-returns-2
 returns-2 c = back-small (c .negative .result) (negative-small (c .negative .result) (c .before .before .args .a) (c .negative .ensures) (search needs))
 
-pub literal-spec : {M : Type 1} → statement M
-literal-spec = tie.close (tie.spec positive-requires returns negative-requires returns-2)
+pub signed-spec : {M : Type 1} → statement M
+signed-spec = tie.close (tie.spec positive-requires returns negative-requires returns-2)
