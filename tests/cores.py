@@ -1,5 +1,5 @@
 #!/usr/bin/env python3
-"""Writes the script (stdin) and the expected figures (stdout) of crates/cores_script, from document 01, "Wishes and cores".
+"""Writes the script (stdin) and the expected figures (stdout) of crates/cores_script, from document 01, "Wishes and cores", and order 1.
 
     python3 tests/cores.py          writes crates/cores_script/stdin and stdout
     python3 tests/cores.py --check  compares them with what stands there
@@ -14,15 +14,16 @@ entries = []
 
 
 class Level:
-    """The level in work: wishes (an entry's literal, or a core and an index), remaining weights, cores, lower bound."""
+    """The level in work: wishes (the literal that an entry's is against, or a core and an index), remaining weights, cores, how far the lower bound has risen."""
 
     def __init__(self, priority):
-        self.wishes = [("entry", l) for (p, l, w) in entries if p == priority and w > 0]
-        self.rest = [w for (p, l, w) in entries if p == priority and w > 0]
+        here = [(l, w) for (p, l, w) in entries if p == priority and w != 0]
+        self.wishes = [("entry", l if w > 0 else -l) for l, w in here]
+        self.rest = [abs(w) for l, w in here]
         self.cores, self.lower = [], 0
 
     def unmet(self, p, atoms, known):
-        """A wish for the complement of its literal; the i-th of a core holds when at most i members are unmet."""
+        """A wish for the complement of the literal in it; the i-th of a core holds when at most i members are unmet."""
         w = self.wishes[p]
         if w[0] == "entry":
             return (abs(w[1]) in atoms) == (w[1] > 0)
@@ -59,7 +60,7 @@ class Level:
 
 def entry(p, l, w):
     entries.append((p, l, w))
-    lines.append(f"1 {p} {int(l < 0)} {abs(l)} {w}")
+    lines.append(f"1 {p} {int(l < 0)} {abs(l)} {int(w < 0)} {abs(w)}")
 
 
 def opened(p):
@@ -92,6 +93,11 @@ def cost(p, atoms):
     return sum(w for (q, l, w) in entries if q == p and (abs(l) in atoms) == (l > 0))
 
 
+def start(p):
+    """Where the lower bound of a level starts: "at the sum of its negative weights"."""
+    return sum(w for (q, _, w) in entries if q == p and w < 0)
+
+
 # ---- 1. the starred sample, beside entries of another priority and of weight 0
 for p, l, w in [(7, 1, 7), (3, 4, 9), (7, 2, 5), (7, 5, 0), (7, 3, 5), (3, -1, 2)]:
     entry(p, l, w)
@@ -106,14 +112,25 @@ strata(l, 9)
 for a in [set(), {1}, {4}, {1, 4}]:
     judge(l, a)
 
+# the same by rewards: a weight of -7 on the complement of 1, and so on
+for l, w in [(-1, -7), (-2, -5), (5, 0), (-3, -5)]:
+    entry(8, l, w)
+l = opened(8)
+strata(l, 1000001)
+assert not core(l, 5, [0, 1, 2]) and l.rest == [2, 0, 0, 5, 5]
+assert start(8) + l.lower + judge(l, {1, 2, 3}) == cost(8, {1, 2, 3}) == 0
+for a in [set(), {1}, {2, 3}, {1, 3}, {4, 5}]:
+    judge(l, a)
+
 # ---- 2. stratified runs over classes of models, by brute force: each query's core is a smallest refuted part of what it assumes
 random.seed(5)
 ATOMS = range(1, 7)
 SETS = [set(c) for k in range(7) for c in itertools.combinations(ATOMS, k)]
-for trial in range(3):
+for trial in range(6):
     base = 10 + trial
+    sign = [1] if trial < 3 else [1, -1]
     for _ in range(7):
-        entry(base, random.choice([1, 1, -1]) * random.choice(ATOMS), random.choice([0, 2, 3, 5, 5, 8]))
+        entry(base, random.choice([1, 1, -1]) * random.choice(ATOMS), random.choice([0, 2, 3, 5, 5, 8]) * random.choice(sign))
     clauses = [[random.choice([1, 1, -1]) * random.choice(ATOMS) for _ in range(3)] for _ in range(6)]
     models = [a for a in SETS if all(any((abs(x) in a) == (x > 0) for x in c) for c in clauses)]
     l = opened(base)
@@ -130,12 +147,12 @@ for trial in range(3):
                 part.remove(p)
         core(l, s, part)
         for a in models:
-            assert cost(base, a) == l.lower + l.violated_weight(a)
+            assert cost(base, a) == start(base) + l.lower + l.violated_weight(a)
         for a in random.sample(SETS, 6):
             judge(l, a)
     for a in SETS:
         judge(l, a)
-    assert min(cost(base, a) for a in models) == l.lower
+    assert min(cost(base, a) for a in models) == start(base) + l.lower
 
 # ---- 3. nested cores: the two new soft literals of each core are in the next, so that judging the last without keeping counts takes 2^150 calls
 for i in range(152):
