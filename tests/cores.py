@@ -129,7 +129,7 @@ SETS = [set(c) for k in range(7) for c in itertools.combinations(ATOMS, k)]
 for trial in range(6):
     base = 10 + trial
     sign = [1] if trial < 3 else [1, -1]
-    for _ in range(7):
+    for _ in range(7 if trial < 3 else 6):
         entry(base, random.choice([1, 1, -1]) * random.choice(ATOMS), random.choice([0, 2, 3, 5, 5, 8]) * random.choice(sign))
     clauses = [[random.choice([1, 1, -1]) * random.choice(ATOMS) for _ in range(3)] for _ in range(6)]
     models = [a for a in SETS if all(any((abs(x) in a) == (x > 0) for x in c) for c in clauses)]
@@ -210,6 +210,9 @@ assert not core(l, 1, list(range(8))) and sum(map(len, l.cores)) == LIMIT
 assert core(l, 1, [0])
 judge(l, {1000, 1001})
 judge(l, {1000 + i for i in range(9)})
+
+
+assert len(entries) <= 512
 
 
 def main():
