@@ -1,21 +1,21 @@
 -- A level's cost is its start plus what its penalties charge; its weight is theirs; and figures over one start compare as what they are above it. Assumes nothing.
-use mathlib.Core.Path.{_≡_, refl, sym, ap, ap₂, _∙_, subst}
-use mathlib.Core.Bool.{Bool, true, false, not, cond, _&&_, _||_}
-use mathlib.Core.List.{List, [], _∷_, map}
-use mathlib.Core.Logic.{_⊎_, inl, inr}
-use Prim.Native.Nat.{ℕ, zero, suc, _+_, _-_, _≤_, _<_, zero-le}
+use mathlib.Core.Path.{_≡_, refl, sym, ap, ap₂, _∙_}
+use mathlib.Core.Bool.{Bool, true, false, not, cond}
+use mathlib.Core.List.{List, [], _∷_}
+use mathlib.Core.Logic.{inl, inr}
+use Prim.Native.Nat.{ℕ, zero, suc, _+_, _-_, _≤_, zero-le}
 use native.Mathlib.Omega.{arith}
 use lib.Dec.{T, eqb, ltb}
 use lib.IntN.{ℤ, pos, negsuc, negℤ, natAbs, _+ℤ_, _-ℤ_, +ℤ-assoc, +ℤ-comm, +ℤ-idl, +ℤ-idr, +ℤ-invl, +ℤ-invr, negℤ-+ℤ}
 use lib.ListN.{length}
 use lib.Signed.{ltZ}
-use borrow.Author.Tests.{lt-ltb, le-ltb, ltb-true, ltb-false, eq-eqb, eqb-true}
+use borrow.Author.Tests.{ltb-true, ltb-false, eq-eqb, eqb-true}
 use Rattle.asp.specs.Sets.{Set, pick}
 use Rattle.asp.specs.Literal.{sameℤ, isNegative}
 use Rattle.asp.specs.Program.{Literal, Entry, All}
 use Rattle.asp.specs.Stable.{holds}
-use Rattle.asp.specs.Cost.{level, total, totalℤ, weight, entryCost, cost, negativePart, start, cheaper, NoDearer}
-use Rattle.asp.specs.Penalty.{Penalty, paidLiteral, penalty, penalties, penaltyCharge, charge, bulk, above, rise}
+use Rattle.asp.specs.Cost.{level, total, totalℤ, weight, cost, negativePart, start, cheaper, NoDearer}
+use Rattle.asp.specs.Penalty.{paidLiteral, penalty, penalties, penaltyCharge, charge, bulk, above, rise}
 use Rattle.asp.proofs.Literals.{holds-complement}
 use Rattle.asp.proofs.Signed.{abs-neg, same-refl, same-true, sum-size}
 

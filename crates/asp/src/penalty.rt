@@ -1,7 +1,7 @@
 // The normal form of an entry: a literal that costs a natural weight where it holds (specs/Penalty.antt).
 ghost use mathlib.Core.Path.{_≡_};
-ghost use Prim.Native.Nat.{ℕ, _≤_, _<_};
-ghost use lib.IntN.{ℤ, pos, natAbs};
+ghost use Prim.Native.Nat.{_≤_, _<_};
+ghost use lib.IntN.{pos, natAbs};
 ghost use lib.ListN.{length, getD};
 ghost use Rattle.asp.specs.Penalty.{paidLiteral};
 use crate::figure;

@@ -1,12 +1,12 @@
 -- What the script's proofs cite. Assumes nothing.
-use mathlib.Core.Path.{_≡_, refl, sym, ap, _∙_, subst}
+use mathlib.Core.Path.{_≡_, refl, ap, _∙_}
 use mathlib.Core.Logic.{_⊎_, inl, inr}
 use mathlib.Core.Bool.{Bool, true, false}
 use mathlib.Core.List.{List, [], _∷_}
 use Prim.Native.Nat.{ℕ, zero, suc, _+_, _-_, _≤_, _<_, zero-le}
 use native.Mathlib.Omega.{arith}
 use lib.Dec.{eqb}
-use lib.IntN.{ℤ, pos, negsuc, negℤ, natAbs}
+use lib.IntN.{ℤ, pos, negℤ, natAbs}
 use lib.ListN.{length, getD, set, replicate, length-map, length-set, length-replicate, getD-replicate, List·getD-eq-default}
 use lib.Seq.{getD-set-same, getD-set-other, length-sets}
 use borrow.Author.Tests.{eqb-true, eqb-false}
@@ -19,7 +19,7 @@ use Rattle.asp.proofs.Signed.{abs-neg, clash, small-fits}
 use mir.Syntax.{w32}
 use mir.Val.{toZ, ofZ}
 use mir.Facts.{toZ-ofZ}
-use Rattle.cores.specs.Level.{FormedPenalties, assumedFrom}
+use Rattle.cores.specs.Level.{assumedFrom}
 use Rattle.cores.specs.declared.level.LevelTables.{LevelTables}
 use Rattle.cores.specs.Tables.{emptyTables, openedTables, SoundTables}
 use Rattle.cores.specs.Columns.{ListedPlaces, listedPlaces, assumedOf}

@@ -1,9 +1,6 @@
 // Loads each text that an argument names, tries every set of its atoms, and prints the stable models with their costs.
 // tests/models/make.py writes the texts and the expected output, by clasp.
-ghost use mathlib.Core.Path.{_≡_};
 ghost use Prim.Native.Nat.{_≤_, _<_};
-ghost use lib.IntN.{natAbs};
-ghost use lib.ListN.{length};
 ghost use Rattle.aspif.specs.Store.{WellFormed};
 use asp::stable::Stability;
 use aspif::text::Loading;

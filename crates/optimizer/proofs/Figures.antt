@@ -3,14 +3,13 @@ use mathlib.Core.Path.{_≡_, refl, sym, ap, ap₂, _∙_}
 use mathlib.Core.List.{List, [], _∷_, _++_, map}
 use Prim.Native.Nat.{ℕ, zero, suc, _+_, _-_, _≤_, _<_}
 use native.Mathlib.Nat.{zero-add}
-use native.Mathlib.Numerals.{add-one}
 use native.Mathlib.Omega.{arith}
 use lib.IntN.{ℤ, pos, natAbs}
 use lib.ListN.{length, getD, take, drop, replicate, length-replicate, length-drop}
 use Rattle.asp.specs.Sets.{Set, setOf}
-use Rattle.asp.specs.Program.{Entry, All, LiteralIn}
-use Rattle.asp.specs.Cost.{cost, costsAt, start, startsAt, level}
-use Rattle.asp.specs.Penalty.{Penalty, charge, above, rise}
+use Rattle.asp.specs.Program.{Entry, LiteralIn}
+use Rattle.asp.specs.Cost.{cost, start, level}
+use Rattle.asp.specs.Penalty.{charge, above, rise}
 use Rattle.asp.specs.Tables.{span, literalsAt}
 use Rattle.asp.proofs.Spans.{length-span, map-span, all-map}
 use Rattle.asp.proofs.Penalties.{Named, level-all, cost-is, aboves, IsAbove}

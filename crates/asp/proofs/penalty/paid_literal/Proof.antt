@@ -1,7 +1,7 @@
 -- `asp::penalty::paid_literal` meets its contract.
 -- Assumes nothing.
 use borrow.Author.Needs.{needs}
-use mathlib.Core.Path.{_≡_, sym, ap, _∙_}
+use mathlib.Core.Path.{_≡_, ap, _∙_}
 use lib.IntN.{negℤ}
 use mir.Syntax.{w32}
 use mir.Val.{SFits}
