@@ -1,9 +1,9 @@
 -- From tables of numbers to programs: what the code's tables mean. Assumes nothing: these are definitions.
 use mathlib.Core.Path.{_≡_}
-use mathlib.Core.Bool.{Bool, true, false, _||_}
+use mathlib.Core.Bool.{Bool, true, false, not, _||_}
 use mathlib.Core.List.{List, [], _∷_}
 use Prim.Native.Nat.{ℕ, zero, suc, _+_, _*_, _≤_, _<_}
-use lib.Dec.{T, eqb, leb}
+use lib.Dec.{eqb, leb}
 use lib.IntN.{ℤ, pos, negsuc, natAbs}
 use lib.ListN.{length, getD}
 use Rattle.asp.specs.Sets.{pick}
@@ -40,7 +40,7 @@ rowAt t r = record { a = getD t (r * 4) 0; b = getD t (r * 4 + 1) 0; c = getD t 
 -- ---- rules: a pool of literals, in which each rule has its head atoms and then its body; and a row for each rule:
 -- a: its kind; b: its first place in the pool; c: how many head atoms; d: how many body literals.
 -- Order 2: after the literals of a weighted body stand its bound and then the weight of each literal.
--- Kind 0 is a plain head, 1 a choice; 2 and 3 are these with a weighted body, 4 and 5 with one in which an atom may stand with both signs.
+-- Kind 0 is a plain head, 1 a choice; 2 and 3 are these with a weighted body, 4 and 5 with one in which some atom stands with both signs.
 
 unfoldable pub isChoice : ℕ → Bool
 isChoice k = eqb k 1 || (eqb k 3 || eqb k 5)
@@ -78,12 +78,12 @@ ruleAt pool r = record { head = headAt pool r; body = bodyAt pool r }
 abbrev pub rulesOf : List ℤ → List ℕ → ℕ → List Rule
 rulesOf pool rows count = span (λ (r : ℕ). ruleAt pool (rowAt rows r)) 0 count
 
--- a row's places are in the pool, a plain head has one atom at most, and where the kind says so each atom of a weighted body has one sign
+-- a row's places are in the pool, a plain head has one atom at most, and the kind says truly whether each atom of a weighted body has one sign
 pub record RowIn (pool : List ℤ) (r : Row) : Type 0 where
   pub inside : r .b + r .c + r .d ≤ length pool
   pub single : isChoice (r .a) ≡ false → r .c ≤ 1
   pub weighed : isWeighted (r .a) ≡ true → r .b + r .c + r .d + 1 + r .d ≤ length pool
-  pub signed : isWeighted (r .a) ≡ true → isMixed (r .a) ≡ false → T (oneSigned (literalsAt pool (r .b + r .c) (r .d)))
+  pub signed : isWeighted (r .a) ≡ true → isMixed (r .a) ≡ not (oneSigned (literalsAt pool (r .b + r .c) (r .d)))
 
 -- well-formed tables of rules over the atoms 1 to n
 pub record Formed (n : ℕ) (pool : List ℤ) (rows : List ℕ) (count : ℕ) : Type 0 where

@@ -91,7 +91,7 @@ pub fn is_weighted(kind: usize) -> bool
     2 <= kind
 }
 
-// Whether an atom may stand with both signs in the weighted body.
+// Whether some atom stands with both signs in the weighted body.
 pub fn is_mixed(kind: usize) -> bool
     ensures { λ r. ⌜ r ≡ isMixed kind ⌝ }
 {
