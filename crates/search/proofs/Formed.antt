@@ -78,6 +78,7 @@ module _ (n : ℕ) (pool : List ℤ) (rows : List ℕ) (count : ℕ) (f : Formed
   readable = record {
     long = f .long;
     inside = λ r h. f .row r h .inside;
+    single = λ r h e. f .row r h .single e;
     weighed = λ r h e. f .row r h .weighed e;
     small = λ r h k a b. omega (arith, f .few, atom-in r h k a b .1);
   }

@@ -104,5 +104,6 @@ scanOf g value = scanFrom (restOf g value) Clear 0 (g .count)
 pub record Readable (g : Rules) : Type 0 where
   pub long : g .count * 4 ≤ length (g .rows)
   pub inside : (r : ℕ) → r < g .count → rowOf g r .b + rowOf g r .c + rowOf g r .d ≤ length (g .pool)
+  pub single : (r : ℕ) → r < g .count → isChoice (rowOf g r .a) ≡ false → rowOf g r .c ≤ 1
   pub weighed : (r : ℕ) → r < g .count → isWeighted (rowOf g r .a) ≡ true → rowOf g r .b + rowOf g r .c + rowOf g r .d + 1 + rowOf g r .d ≤ length (g .pool)
   pub small : (r : ℕ) → r < g .count → (k : ℕ) → rowOf g r .b ≤ k → k < rowOf g r .b + rowOf g r .c + rowOf g r .d → natAbs (getD (g .pool) k (pos 0)) ≤ 1024
