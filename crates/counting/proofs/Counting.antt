@@ -99,7 +99,7 @@ module _ (g : Rules) (o : Index) (ix : Indexed g o) where
       go false false = omega (arith, sum-bound (λ a. term o r a (getD v a 0)) 4 0 1025 each)
 
   -- a rule with a weighted body has no terms
-  term-none : (r c y : ℕ) → r < g .count → isWeighted (rowOf g r .a) ≡ true → c ≤ 1024 → term o r c y ≡ 0
+  pub term-none : (r c y : ℕ) → r < g .count → isWeighted (rowOf g r .a) ≡ true → c ≤ 1024 → term o r c y ≡ 0
   term-none r c y h e l = rw (ix .apart r (c * 2) h e (omega arith), ix .apart r (c * 2 + 1) h e (omega arith)) (nothing (truthOf (pos c) y) (truthOf (negsuc c) y))
     where
       none : (x : ℕ) → weigh 0 x ≡ 0
