@@ -17,7 +17,7 @@ use Rattle.aspif.specs.Store.{RulesSound, RuleAdded, ruleCounts, Symbols
 use Rattle.aspif.specs.declared.table.Counts.{Counts}
 use Rattle.aspif_lines.proofs.Tokens.{lt-or-le}
 use Rattle.asp.proofs.Spans.{map-span}
-use Rattle.aspif_lines.proofs.Spans.{span-same, span-append, span-snoc, span-length, literalsAt-kept}
+use Rattle.aspif_lines.proofs.Spans.{highest-span, span-same, span-append, span-snoc, span-length, literalsAt-kept}
 use Rattle.aspif_lines.proofs.Heads.{head-atoms, head-size, length-map}
 
 pub sum-snoc : {A : Type 0} (f : A → ℕ) (xs : List A) (x : A) → sum f (xs ++ (x ∷ [])) ≡ sum f xs + f x
@@ -153,11 +153,6 @@ module _ (text : List ℕ) (conditions conditions′ : List ℤ) (symbols symbol
       }
 
 -- ---- entries
-
-highest-span : {A B : Type 0} (f : A → ℕ) (g : ℕ → A) (f′ : B → ℕ) (g′ : ℕ → B) (i k : ℕ) → ((j : ℕ) → f (g j) ≡ f′ (g′ j)) → highest f (span g i k) ≡ highest f′ (span g′ i k)
-unfolding span highest
-highest-span f g f′ g′ i zero h = refl
-highest-span f g f′ g′ i (suc k) h = rw (h i, highest-span f g f′ g′ (i + 1) k h)
 
 module _ (ps ps′ ls ls′ ws ws′ levels levels′ : List ℤ) (n : Counts) (k d t : ℕ) (q : ℤ) (l : List ℕ)
     (f : Kept (pos 0) (n .entries) ps ps′) (g : Kept (pos 0) (n .entries) ls ls′) (h : Kept (pos 0) (n .entries) ws ws′) where
