@@ -1,7 +1,7 @@
 -- Every program that a text is accepted with has atoms from 1 to 1,024, weights and bounds in their ranges and its priorities in order, and fits its tables. Assumes nothing.
 use mathlib.Core.Path.{_≡_, refl}
 use mathlib.Core.Bool.{Bool, true, false}
-use mathlib.Core.List.{List, [], _∷_, _++_, map}
+use mathlib.Core.List.{List, [], _∷_, map}
 use Prim.Native.Nat.{ℕ, _+_, _≤_}
 use lib.Dec.{ltb, eqb}
 use lib.IntN.{ℤ, natAbs}

@@ -3,7 +3,7 @@ use mathlib.Core.Path.{_≡_, refl, sym, ap, subst, _∙_}
 use mathlib.Core.Bool.{Bool, true, false, not}
 use mathlib.Core.List.{List, [], _∷_, _++_}
 use mathlib.Core.Logic.{⊎-elim}
-use Prim.Native.Nat.{ℕ, zero, suc, _+_, _<_, _≤_, max}
+use Prim.Native.Nat.{ℕ, _+_, _<_, _≤_, max}
 use native.Mathlib.Omega.{arith}
 use lib.IntN.{ℤ, pos, natAbs}
 use lib.ListN.{length, getD}
@@ -93,31 +93,31 @@ module _ (pool pool′ : List ℤ) (rules rules′ : List ℕ) (n : Counts) (kin
       (λ g. let e : j ≡ n .rules = omega arith in let d : rowAt rules′ j ≡ row = rw e (pushed .here) in subst P (sym d) h)
       (lt-or-le j (n .rules))
 
-  rules-sound : RulesSound pool′ rules′ (n .rules + 1) (n .used + m + k) (n .filled + m + k + extraPlaces kind k)
-  rules-sound =
-      record {
-        inside = each-row (λ (r : Row). rowEnd r ≤ n .filled + m + k + extraPlaces kind k) (λ j b. omega (arith, sound .inside j b)) (omega arith);
-        single = each-row (λ (r : Row). isChoice (r .a) ≡ false → r .c ≤ 1) (sound .single) (good .single);
-        signed = each-row (SignedRow pool′)
-            (λ j b w. sound .signed j b w ∙ ap (λ (ls : List ℤ). not (oneSigned ls)) (sym (literalsAt-kept pool pool′ (n .filled) (rowAt rules j .b + rowAt rules j .c) (rowAt rules j .d) kept (omega (arith, sound .inside j b)))))
-            (good .signed);
-        size = rw (rules-grow, sum-snoc ruleSize (rulesOf pool rules (n .rules)) (ruleAt pool′ row)) (omega (arith, sound .size, row-size pool′ row (good .single)));
-        room = omega (arith, sound .room, extra-few kind k);
-      }
+  module _ (used filled : ℕ) (counted : used ≡ n .used + (m + k)) (taken : filled ≡ n .filled + (m + k + extraPlaces kind k)) where
+    rules-sound : RulesSound pool′ rules′ (n .rules + 1) used filled
+    rules-sound =
+        record {
+          inside = each-row (λ (r : Row). rowEnd r ≤ filled) (λ j b. omega (arith, sound .inside j b)) (omega arith);
+          single = each-row (λ (r : Row). isChoice (r .a) ≡ false → r .c ≤ 1) (sound .single) (good .single);
+          signed = each-row (SignedRow pool′)
+              (λ j b w. sound .signed j b w ∙ ap (λ (ls : List ℤ). not (oneSigned ls)) (sym (literalsAt-kept pool pool′ (n .filled) (rowAt rules j .b + rowAt rules j .c) (rowAt rules j .d) kept (omega (arith, sound .inside j b)))))
+              (good .signed);
+          size = rw (rules-grow, sum-snoc ruleSize (rulesOf pool rules (n .rules)) (ruleAt pool′ row)) (omega (arith, sound .size, row-size pool′ row (good .single)));
+          room = omega (arith, sound .room, extra-few kind k);
+        }
 
-  pub rule-added : (end : ℕ) → got (ruleAt pool′ row) [] ≡ ruleLine l
-      → RuleAdded pool rules pool′ rules′ n end l (ruleCounts n (n .used + m + k) (n .filled + m + k + extraPlaces kind k) t end)
-  rule-added end e =
-      record {
-        read = ruleAt pool′ row;
-        line = sym e;
-        grown = rules-grow;
-        sound = rules-sound;
-        top = good .atoms;
-        counts = refl;
-        longPool = kept .long;
-        longRules = pushed .long;
-      }
+    pub rule-added : (end : ℕ) → got (ruleAt pool′ row) [] ≡ ruleLine l → RuleAdded pool rules pool′ rules′ n end l (ruleCounts n used filled t end)
+    rule-added end e =
+        record {
+          read = ruleAt pool′ row;
+          line = sym e;
+          grown = rules-grow;
+          sound = rules-sound;
+          top = good .atoms;
+          counts = refl;
+          longPool = kept .long;
+          longRules = pushed .long;
+        }
 
 -- ---- symbols, whose names are in the text
 

@@ -53,8 +53,10 @@ pub fn add_rule(
         } => {
             push_row(rules, n.rules, kind, n.filled, heads, body);
             let count = n.rules + 1;
-            let used = n.used + heads + body;
-            let filled = n.filled + heads + body + extra_places(kind, body);
+            let places = heads + body;
+            let whole = places + extra_places(kind, body);
+            let used = n.used + places;
+            let filled = n.filled + whole;
             LineTurn::Goes {
                 counts: Counts {
                     rules: count,

@@ -1,15 +1,15 @@
 -- Order 2: pairs in a pool, their literals first, then a place for the bound, then their weights. Assumes nothing.
-use mathlib.Core.Path.{_≡_, refl, sym, ap, _∙_}
-use mathlib.Core.Bool.{Bool, true, false, not, _&&_, _||_}
+use mathlib.Core.Path.{_≡_, refl, ap, _∙_}
+use mathlib.Core.Bool.{Bool, true, false, not}
 use mathlib.Core.List.{List, [], _∷_, _++_}
-use Prim.Native.Nat.{ℕ, zero, suc, _+_, _-_, _<_, _≤_, max}
+use Prim.Native.Nat.{ℕ, _+_, _-_, _<_, _≤_, max}
 use native.Mathlib.Omega.{arith}
 use lib.IntN.{ℤ, pos, negℤ, natAbs}
 use lib.ListN.{length, getD, set, length-set}
 use lib.Seq.{getD-set-same, getD-set-other}
 use Rattle.asp.specs.Literal.{sameℤ, occursAmong, oneSigned}
 use Rattle.asp.specs.Program.{Weighed, weighted, highest, All, LiteralIn}
-use Rattle.asp.specs.Tables.{span, literalsAt, pairAt, pairsAt}
+use Rattle.asp.specs.Tables.{literalsAt, pairAt, pairsAt}
 use Rattle.asp.proofs.Spans.{span-more, span-none, span-at}
 use Rattle.aspif_lines.specs.Text.{got, more, weighedField}
 use Rattle.aspif_lines.specs.Seen.{Kept, bodyFrom, BodyGood}

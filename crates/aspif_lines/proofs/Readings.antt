@@ -6,11 +6,11 @@ use Prim.Native.Nat.{ℕ, zero, suc, _+_, _≤_}
 use native.Mathlib.Omega.{arith}
 use lib.Dec.{leb, eqb}
 use lib.IntN.{ℤ, pos, natAbs}
-use lib.ListN.{drop, getD}
+use lib.ListN.{drop}
 use borrow.Author.Tests.{leb-true, eqb-false}
 use Rattle.asp.specs.Sets.{pick, In}
-use Rattle.asp.specs.Program.{Weighed, Body, normal, weighted, All, LiteralIn, BodyIn}
-use Rattle.asp.specs.Tables.{named, span, literalsAt, pairAt, pairsAt}
+use Rattle.asp.specs.Program.{Weighed, Body, normal, weighted, All, LiteralIn}
+use Rattle.asp.specs.Tables.{named, span, literalsAt, pairsAt}
 use Rattle.aspif_lines.specs.Text.{within, Read, got, bad, bind, next, token, ranged, number, signedToken, signedUpTo, signed, field, natural, atom, literal, memberField, more, nil, ended, normalBody, weighedField, weightedBody, bodyField}
 use Rattle.aspif_lines.proofs.Tokens.{within-ends}
 

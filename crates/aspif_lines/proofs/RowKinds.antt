@@ -1,12 +1,11 @@
 -- The kind of a row, and the rule that the row says. Assumes nothing.
 use mathlib.Core.Path.{_≡_, refl, sym, ap, _∙_}
-use mathlib.Core.Bool.{Bool, true, false, not}
+use mathlib.Core.Bool.{Bool, true, false}
 use mathlib.Core.List.{List, map}
 use Prim.Native.Nat.{ℕ, _+_, _≤_, max}
 use native.Mathlib.Omega.{arith}
 use lib.IntN.{ℤ, pos, natAbs}
-use lib.ListN.{length, getD}
-use Rattle.asp.specs.Literal.{oneSigned}
+use lib.ListN.{getD}
 use Rattle.asp.specs.Program.{highest, headAtoms, ruleAtoms}
 use Rattle.asp.specs.Tables.{literalsAt, named, isChoice, isWeighted, isMixed, ruleAt}
 use Rattle.asp.proofs.Spans.{map-span}

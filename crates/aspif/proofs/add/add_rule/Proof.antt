@@ -1,3 +1,4 @@
+-- `aspif::add::add_rule` meets its contract. Assumes nothing.
 use mathlib.Core.Path.{sym}
 use native.Mathlib.Omega.{arith}
 use Rattle.aspif.proofs.Added.{extra-few, rule-added}
@@ -22,52 +23,46 @@ push-row-requires c κs =
 add-count : tie.Need-add-count
 add-count c = search needs
 
-add-used : tie.Need-add-used
-add-used c =
-    let pre = c .before .before .before .before .before .before .before .before .before .before .pre in
-    let read-rule = c .before .before .before .before .before .before .before .read-rule in
-    let l = c .before .before .before .before .before .l in
+add-places : tie.Need-add-places
+add-places c =
+    let read-rule = c .before .before .before .before .before .before .read-rule in
+    let l = c .before .before .before .before .l in
     let good = rw (l .given .1) at (read-rule .ensures .1) in
-    omega (arith, good .heads, good .body, pre .0 .room, pre .1 .used, pre .1 .rules)
-
-add-used-2 : tie.Need-add-used-2
-add-used-2 c =
-    let pre = c .before .before .before .before .before .before .before .before .before .before .pre in
-    let read-rule = c .before .before .before .before .before .before .before .read-rule in
-    let l = c .before .before .before .before .before .l in
-    let good = rw (l .given .1) at (read-rule .ensures .1) in
-    omega (arith, good .heads, good .body, pre .0 .room, pre .1 .used, pre .1 .rules)
-
-add-filled : tie.Need-add-filled
-add-filled c =
-    let pre = c .before .before .before .before .before .before .before .before .before .before .before .pre in
-    let read-rule = c .before .before .before .before .before .before .before .before .read-rule in
-    let l = c .before .before .before .before .before .before .l in
-    let good = rw (l .given .1) at (read-rule .ensures .1) in
-    omega (arith, good .heads, good .body, pre .0 .room, pre .1 .used, pre .1 .rules)
-
-add-filled-2 : tie.Need-add-filled-2
-add-filled-2 c =
-    let pre = c .before .before .before .before .before .before .before .before .before .before .before .pre in
-    let read-rule = c .before .before .before .before .before .before .before .before .read-rule in
-    let l = c .before .before .before .before .before .before .l in
-    let good = rw (l .given .1) at (read-rule .ensures .1) in
-    omega (arith, good .heads, good .body, pre .0 .room, pre .1 .used, pre .1 .rules)
+    omega (arith, good .heads, good .body)
 
 extra-places-requires : tie.Need-extra-places-requires
 extra-places-requires c κs =
-    let read-rule = c .before .before .before .before .before .before .before .before .read-rule in
-    let l = c .before .before .before .before .before .before .l in
+    let read-rule = c .before .before .before .before .before .before .read-rule in
+    let l = c .before .before .before .before .l in
     let good = rw (l .given .1) at (read-rule .ensures .1) in
     good .body
 
-add-filled-3 : tie.Need-add-filled-3
-add-filled-3 c =
+add-whole : tie.Need-add-whole
+add-whole c =
+    let pre = c .before .before .before .before .before .before .before .before .before .before .pre in
+    let read-rule = c .before .before .before .before .before .before .before .read-rule in
+    let l = c .before .before .before .before .before .l in
+    let extra-places = c .extra-places in
+    let good = rw (l .given .1) at (read-rule .ensures .1) in
+    omega (arith, good .heads, good .body, pre .0 .room, pre .1 .used, pre .1 .rules, extra-places .ensures, extra-few (l .given .0 .0) (l .given .0 .1 .1 .0))
+
+add-used : tie.Need-add-used
+add-used c =
+    let pre = c .before .before .before .before .before .before .before .before .before .before .before .pre in
+    let read-rule = c .before .before .before .before .before .before .before .before .read-rule in
+    let l = c .before .before .before .before .before .before .l in
+    let extra-places = c .before .extra-places in
+    let good = rw (l .given .1) at (read-rule .ensures .1) in
+    omega (arith, good .heads, good .body, pre .0 .room, pre .1 .used, pre .1 .rules, extra-places .ensures, extra-few (l .given .0 .0) (l .given .0 .1 .1 .0))
+
+add-filled : tie.Need-add-filled
+add-filled c =
     let pre = c .before .before .before .before .before .before .before .before .before .before .before .before .pre in
     let read-rule = c .before .before .before .before .before .before .before .before .before .read-rule in
     let l = c .before .before .before .before .before .before .before .l in
+    let extra-places = c .before .before .extra-places in
     let good = rw (l .given .1) at (read-rule .ensures .1) in
-    omega (arith, good .heads, good .body, pre .0 .room, pre .1 .used, pre .1 .rules, c .extra-places .ensures, extra-few (l .given .0 .0) (l .given .0 .1 .1 .0))
+    omega (arith, good .heads, good .body, pre .0 .room, pre .1 .used, pre .1 .rules, extra-places .ensures, extra-few (l .given .0 .0) (l .given .0 .1 .1 .0))
 
 enum-known-l-2 : tie.Need-enum-known-l-2
 enum-known-l-2 c = search needs
@@ -79,9 +74,10 @@ returns c =
     let read-rule = c .before .before .before .before .before .before .before .before .before .read-rule in
     let l = c .before .before .before .before .before .before .before .l in
     let push-row = c .before .before .before .before .push-row in
+    let extra-places = c .before .before .extra-places in
     let good = rw (l .given .1) at (read-rule .ensures .1) in
     let e = rw (l .given .1) at (read-rule .ensures .0) in
-    rw (c .extra-places .ensures) (rule-added _ _ _ _ (args .n) _ _ _ _ _ (pre .0) (read-rule .ensures .2) (push-row .ensures) good (args .end) e)
+    rule-added _ _ _ _ (args .n) _ _ _ _ _ (pre .0) (read-rule .ensures .2) (push-row .ensures) good _ _ (omega arith) (omega (arith, extra-places .ensures)) (args .end) e
 
 returns-2 : tie.Need-returns-2
 returns-2 c =
@@ -97,12 +93,11 @@ add-rule-spec =
     enum-known-l
     push-row-requires
     add-count
-    add-used
-    add-used-2
-    add-filled
-    add-filled-2
+    add-places
     extra-places-requires
-    add-filled-3
+    add-whole
+    add-used
+    add-filled
     enum-known-l-2
     returns
     returns-2)
