@@ -31,7 +31,7 @@ CASES = [
     ("bound 1,000,000,001", H + "1 0 0 1 1000000001 0\n0\n", (4, 2)),
     ("bound 99,999,999,999", H + "1 0 0 1 99999999999 0\n0\n", (4, 2)),
     ("a bound with a minus", H + "1 0 0 1 -1 0\n0\n", (2, 2)),
-    ("a bound before its count: form of the count", H + "1 0 0 1 5 -1\n0\n", (2, 2)),
+    ("a count of pairs of a body with a minus", H + "1 0 0 1 5 -1\n0\n", (2, 2)),
     ("1,025 pairs", H + "1 0 0 1 5 1025", (4, 2)),
     ("a pair's literal 0", H + "1 0 0 1 5 1 0 1\n0\n", (4, 2)),
     ("a pair's weight 1,000,001", H + "1 0 0 1 5 1 1 1000001\n0\n", (4, 2)),
