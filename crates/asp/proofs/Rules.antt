@@ -13,8 +13,8 @@ use borrow.Author.Tests.{eq-eqb, ne-eqb}
 use Rattle.asp.specs.Sets.{Set, Sub, In, setOf, pick}
 use Rattle.asp.specs.Program.{Literal, LiteralIn, Weighed, Body, normal, weighted, Head, constraint, plain, choice, Rule, All, HeadIn, RuleIn}
 use Rattle.asp.specs.Stable.{allHold, counts, bodyHolds, member, headAdds, ruleAdds, adds, constraintFails, anyViolated, Closed}
-use Rattle.asp.specs.Tables.{span, named, literalsAt, atomsAt, isChoice, isWeighted, pairsAt, Row, rowAt, plainHead, headAt, ruleAt, rulesOf, RowIn, Formed}
-use Rattle.asp.specs.Growth.{Grown, Chosen, KeptBy, PairsIn, RuleFormed, RulesFormed}
+use Rattle.asp.specs.Tables.{span, named, literalsAt, atomsAt, isChoice, isWeighted, pairAt, pairsAt, Row, rowAt, plainHead, headAt, ruleAt, rulesOf, RowIn, Formed}
+use Rattle.asp.specs.Growth.{Grown, Chosen, KeptBy, PairsFormed, RuleFormed, RulesFormed}
 use Rattle.asp.proofs.Stability.{body-mono, yes-or-left, yes-or-right}
 use Rattle.asp.proofs.Spans.{span-more, span-none, span-whole, span-snoc, span-at, all-map}
 use Rattle.asp.proofs.Pairs.{body-weighted, body-normal}
@@ -55,13 +55,15 @@ module _ {pool : List ℤ} {rows : List ℕ} {r : ℕ} (w : RuleFormed pool rows
   body-atoms ek ex q ef eh eb = rw (ef, eh, eb) (rw (body-normal pool (rowAt rows r) (rw (← ek, ← ex) q)) at (w .atoms .1))
 
   pub body-pairs : {k f h b : ℕ} {x : Bool} → k ≡ getD rows (r * 4) 0 → x ≡ isWeighted k → x ≡ true → f ≡ getD rows (r * 4 + 1) 0 → h ≡ getD rows (r * 4 + 2) 0 → b ≡ getD rows (r * 4 + 3) 0
-      → b < 65536 → PairsIn pool (f + h) b
+      → b < 65536 → PairsFormed pool (b + 1) (f + h) b
   body-pairs ek ex q ef eh eb small =
       let e : isWeighted (rowAt rows r .a) ≡ true = rw (← ek, ← ex) q in
       record {
         few = small;
         inside = omega (arith, w .row .weighed e);
-        atoms = rw (ef, eh, eb) (rw (body-weighted pool (rowAt rows r) e) at (w .atoms .1));
+        small = λ j a c.
+            span-at (pairAt pool (getD rows (r * 4 + 3) 0 + 1)) (λ (p : Weighed). LiteralIn 1024 (p .literal)) (getD rows (r * 4 + 1) 0 + getD rows (r * 4 + 2) 0) (getD rows (r * 4 + 3) 0)
+            (rw (body-weighted pool (rowAt rows r) e) at (w .atoms .1)) j (omega arith) (omega arith) .1;
       }
 
   pub choice-atoms : {k f h : ℕ} {x : Bool} → k ≡ getD rows (r * 4) 0 → x ≡ isChoice k → x ≡ true → f ≡ getD rows (r * 4 + 1) 0 → h ≡ getD rows (r * 4 + 2) 0 → All (In 1024) (atomsAt pool f h)

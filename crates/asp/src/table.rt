@@ -8,7 +8,7 @@ ghost use Rattle.asp.specs.Sets.{setOf, In};
 ghost use Rattle.asp.specs.Stable.{holdsIn, allHold, pairCounts, counts, bodyHolds};
 ghost use Rattle.asp.specs.Program.{All, LiteralIn};
 ghost use Rattle.asp.specs.Tables.{literalsAt, named, isChoice, isWeighted, isMixed, pairAt, pairsAt, rowAt, ruleAt};
-ghost use Rattle.asp.specs.Growth.{RuleFormed, PairsIn};
+ghost use Rattle.asp.specs.Growth.{RuleFormed, PairsFormed};
 
 pub fn wide(x: u16) -> usize
     ensures { λ r. ⌜ (r ≡ x) × (r < 65536) ⌝ }
@@ -118,12 +118,11 @@ fn counted_at<'a>(pool: &'a [i32], gap: usize, j: usize, m: &'a [u8], x: &'a [u8
 }
 
 // What the `k` pairs from `i` on count.
-fn counted<'a>(pool: &'a [i32], i: usize, k: usize, m: &'a [u8], x: &'a [u8]) -> u64
-    requires { ⌜ PairsIn (now pool) i k × (1024 < length (now m)) × (1024 < length (now x)) ⌝ }
-    ensures { λ r. ⌜ r ≡ counts (setOf (now (m .entry))) (setOf (now (x .entry))) (pairsAt (now (pool .entry)) (k + 1) i k) ⌝ }
+fn counted<'a>(pool: &'a [i32], gap: usize, i: usize, k: usize, m: &'a [u8], x: &'a [u8]) -> u64
+    requires { ⌜ PairsFormed (now pool) gap i k × (1024 < length (now m)) × (1024 < length (now x)) ⌝ }
+    ensures { λ r. ⌜ r ≡ counts (setOf (now (m .entry))) (setOf (now (x .entry))) (pairsAt (now (pool .entry)) gap i k) ⌝ }
 {
     let end = i + k;
-    let gap = k + 1;
     let mut j = i;
     let mut sum: u64 = 0;
     while j < end {
@@ -136,10 +135,10 @@ fn counted<'a>(pool: &'a [i32], i: usize, k: usize, m: &'a [u8], x: &'a [u8]) ->
 
 // Whether the `k` pairs from `i` on, with the bound behind them, reach it.
 fn reaches<'a>(pool: &'a [i32], i: usize, k: usize, m: &'a [u8], x: &'a [u8]) -> bool
-    requires { ⌜ PairsIn (now pool) i k × (1024 < length (now m)) × (1024 < length (now x)) ⌝ }
+    requires { ⌜ PairsFormed (now pool) (k + 1) i k × (1024 < length (now m)) × (1024 < length (now x)) ⌝ }
     ensures { λ r. ⌜ r ≡ leb (natAbs (getD (now (pool .entry)) (i + k) (pos 0))) (counts (setOf (now (m .entry))) (setOf (now (x .entry))) (pairsAt (now (pool .entry)) (k + 1) i k)) ⌝ }
 {
-    let sum = counted(pool, i, k, m, x);
+    let sum = counted(pool, k + 1, i, k, m, x);
     weight_at(pool, i + k) <= sum
 }
 

@@ -5,6 +5,9 @@ use borrow.Author.Needs.{needs}
 use Rattle.asp.proofs.table.reaches.Statement.{statement}
 use Rattle.asp.proofs.table.reaches.Tie as tie
 
+add-counted : tie.Need-add-counted
+add-counted c = search needs
+
 counted-requires : tie.Need-counted-requires
 counted-requires c κs = search needs
 
@@ -18,4 +21,5 @@ returns : tie.Need-returns
 returns c = search (reaches-says, needs)
 
 pub reaches-spec : {M : Type 1} → statement M
-reaches-spec = tie.close (tie.spec counted-requires add-weight-at weight-at-requires returns)
+reaches-spec =
+    tie.close (tie.spec add-counted counted-requires add-weight-at weight-at-requires returns)
