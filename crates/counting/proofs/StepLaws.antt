@@ -49,7 +49,7 @@ pub test-done : (g : Rules) (n : ℕ) (s : AssumedEntries) (v : List ℕ) (len :
 test-done g n s v len e q = q ∙ ap (testBy n s v len) e
 
 -- the rows of the weighted bodies can be read
-indexed-weighable : {g : Rules} {o : Index} → Indexed g o → Readable g → Weighable (bodies (g .pool) (g .rows)) o
+pub indexed-weighable : {g : Rules} {o : Index} → Indexed g o → Readable g → Weighable (bodies (g .pool) (g .rows)) o
 indexed-weighable {g} {o} i f = record {
   each = λ a e h p q.
       let r = getD (o .rules) e 0 in

@@ -254,29 +254,29 @@ module _ (n : ℕ) (pool : List ℤ) (rows : List ℕ) (count : ℕ) (form : For
   -- ---- order 2: the same of a rule with a weighted body
 
   module _ (r : ℕ) (c : r < count) (body : T (bodyHolds M M (ruleAt pool (rowAt rows r) .body))) (w : isWeighted (rowAt rows r .a) ≡ true) where
-    abbrev V : Row
-    V = rowAt rows r
+    abbrev X : Row
+    X = rowAt rows r
 
-    body-all : weightedRest pool v V ≡ Rest.All
+    body-all : weightedRest pool v X ≡ Rest.All
     body-all =
-        body-full n v (leaf .whole) small (isMixed (V .a)) (boundAt pool V) (pairsAt pool (V .d + 1) (V .b + V .c) (V .d)) (rw (body-weighted pool V w) at (rule-in n pool rows count form r c .1))
-        (rw (body-weighted pool V w) at body)
+        body-full n v (leaf .whole) small (isMixed (X .a)) (boundAt pool X) (pairsAt pool (X .d + 1) (X .b + X .c) (X .d)) (rw (body-weighted pool X w) at (rule-in n pool rows count form r c .1))
+        (rw (body-weighted pool X w) at body)
 
-    key-by : (s : Rest) → headRest pool v V ≡ s → keyOf G o v r ≡ restNumber s
+    key-by : (s : Rest) → headRest pool v X ≡ s → keyOf G o v r ≡ restNumber s
     unfolding weighNumber
     key-by s e = rw (w, e, body-all) (omega arith)
 
-    weighted-choice : isChoice (V .a) ≡ true → keyOf G o v r ≡ 2
-    weighted-choice e = key-by Rest.Off (rw e (off-stays v (headConditions pool V)))
+    weighted-choice : isChoice (X .a) ≡ true → keyOf G o v r ≡ 2
+    weighted-choice e = key-by Rest.Off (rw e (off-stays v (headConditions pool X)))
 
-    weighted-constraint : isChoice (V .a) ≡ false → V .c ≡ 0 → keyOf G o v r ≡ 0
+    weighted-constraint : isChoice (X .a) ≡ false → X .c ≡ 0 → keyOf G o v r ≡ 0
     unfolding span meets
     weighted-constraint e z = key-by Rest.All (rw (e, z) refl)
 
-    module _ (a : ℕ) (m : isChoice (V .a) ≡ false) (one : V .c ≡ 1) (head : getD pool (V .b) (pos 0) ≡ pos (suc a)) where
-      head-is : headRest pool v V ≡ meetOf v Rest.All (negsuc a)
+    module _ (a : ℕ) (m : isChoice (X .a) ≡ false) (one : X .c ≡ 1) (head : getD pool (X .b) (pos 0) ≡ pos (suc a)) where
+      head-is : headRest pool v X ≡ meetOf v Rest.All (negsuc a)
       unfolding span meets
-      head-is = rw (m, one, lt-ltb (V .b) (V .b + 1) (omega arith), head) refl
+      head-is = rw (m, one, lt-ltb (X .b) (X .b + 1) (omega arith), head) refl
 
       weighted-plain : T (M (suc a)) → keyOf G o v r ≡ 2
       weighted-plain u = key-by Rest.Off (head-is ∙ (let z = in-true n v (leaf .whole) small (suc a) u in rw z refl))
