@@ -1,9 +1,11 @@
 #!/usr/bin/env python3
-"""A reader of texts in Python, written from documents 01 and 02 (order 1) alone: the program of a text, or its refusal's number and line.
+"""A reader of texts in Python, written from documents 01 and 02 (orders 1 and 2) alone: the program of a text, or its refusal's number and line.
 
 tests/aspif_texts.py and tests/service.py use it.
 """
 import re
+
+from bodies import Sum, literals
 
 H = b"asp 1 0 0\n"
 
@@ -57,7 +59,7 @@ class Program:
         self.rules, self.entries, self.levels, self.symbols, self.text = [], [], set(), [], b""
 
     def fits(self):
-        return (len(self.rules) <= 2048 and sum(len(h) + len(b) for _, h, b in self.rules) <= 16384
+        return (len(self.rules) <= 2048 and sum(len(h) + len(literals(b)) for _, h, b in self.rules) <= 16384
                 and len(self.entries) <= 512 and len(self.levels) <= 8 and len(self.symbols) <= 512
                 and sum(len(c) for _, c in self.symbols) <= 2048 and sum(len(n) for n, _ in self.symbols) <= 16384)
 
@@ -73,9 +75,11 @@ def statement(line, p):
         if h == 0 and m > 1:
             raise Refused(3)
         heads = [f.next(1, 1024) for _ in range(m)]
-        if f.next(0, 1) == 1:
-            raise Refused(3)
-        body = [f.literal() for _ in range(f.next(0, 1024))]
+        if f.next(0, 1) == 0:
+            body = [f.literal() for _ in range(f.next(0, 1024))]
+        else:
+            bound = f.next(0, 1000000000)
+            body = Sum(bound, [(f.literal(), f.next(0, 1000000)) for _ in range(f.next(0, 1024))])
         f.end()
         p.rules.append((h, heads, body))
     elif kind == 2:

@@ -1,5 +1,5 @@
 #!/usr/bin/env python3
-"""Writes crates/aspif_texts/stdin and stdout: texts, and the answers that documents 01 and 02 (order 1) give.
+"""Writes crates/aspif_texts/stdin and stdout: texts, and the answers that documents 01 and 02 (orders 1 and 2) give.
 
 Each text stands here with its answer, taken from those: OK, or the number of the refusal and the line.
 For an accepted text the answer also has figures of its program, from a reader in Python that was written from
@@ -10,6 +10,7 @@ A text in stdin is its length, as eight digits, and then its bytes. A line of st
 import os, sys
 
 from aspif_reader import H, Program, read
+from bodies import Sum, literals
 
 OK = "ok"
 
@@ -22,11 +23,16 @@ def signed(x):
     return 2000 + x
 
 def figures(p):
-    atoms = [a for _, h, b in p.rules for a in h + b] + [z for _, z, _ in p.entries] + [z for _, c in p.symbols for z in c]
+    atoms = [a for _, h, b in p.rules for a in h + literals(b)] + [z for _, z, _ in p.entries] + [z for _, c in p.symbols for z in c]
     hr = 7
     for h, heads, body in p.rules:
-        for x in [h, len(heads), len(body)] + [signed(z) for z in heads + body]:
+        # the kind of a rule: 2 more for a weighted body, 4 more for one in which an atom stands with both signs; its bound and its weights come after its literals
+        weighted = isinstance(body, Sum)
+        kind = h + (4 if body.mixed else 2) if weighted else h
+        for x in [kind, len(heads), len(literals(body))] + [signed(z) for z in heads + literals(body)]:
             hr = fold(hr, x)
+        for x in [body.bound, *[w for _, w in body.pairs]] if weighted else []:
+            hr = fold(fold(hr, x // 20000), x % 20000)
     he = 7
     for q, z, w in p.entries:
         for x in [signed(q), signed(z), int(w < 0), abs(w) // 1000, abs(w) % 1000]:
@@ -119,14 +125,14 @@ places = [
     ("2 ", "7", " 1 3 4", True), ("2 -7 ", "1", " 3 4", False), ("2 7 1 ", "3", " 4", True), ("2 7 1 3 ", "4", "", True), ("2 7 2 3 ", "4", " -5 6", True), ("2 7 2 3 4 ", "5", " 6", True), ("2 7 2 3 4 -5 ", "6", "", True), ("2 -7 2 -3 -4 -5 ", "-6", "", True),
     ("4 ", "3", " abc 1 2", False), ("4 3 abc ", "1", " 2", False), ("4 3 abc 1 ", "2", "", True), ("4 3 abc 2 2 ", "9", "", True),
 ]
-for before, right, after, minus in places:
+def place(before, right, after, minus, out_of_range):
     body(before + right + after + "\n", OK)
     for wrong in ["", "01", "00", "+1", "x", "1x", "-", "--1", "1-", "-0", "-01", "\0", "1\r", "\t1", "1.0", "0x1", "-x", "²", "0" + big, "-0" + big]:
         body(before + wrong + after + "\n", (2, 2))
     body(before + "-1" + after + "\n", OK if minus else (2, 2))
     if not minus:
         body(before + "-" + big + after + "\n", (2, 2))
-    for far in ["1000001", "4294967297", "18446744073709551617", big]:
+    for far in out_of_range:
         body(before + far + after + "\n", (4, 2))
         if minus:
             body(before + "-" + far + after + "\n", (4, 2))
@@ -137,6 +143,9 @@ for before, right, after, minus in places:
     body(before + right + after + " \n", (2, 2))
     body(before + right + after + " 1\n", (2, 2))
     body(before + " " + right + after + "\n", (2, 2))
+
+for p in places:
+    place(*p, ["1000001", "4294967297", "18446744073709551617", big])
 
 # ranges at both edges
 for line, answer in [
@@ -173,15 +182,77 @@ body("2 0 512" + " 1 -1000000" * 512 + "\n", OK)
 body("2 0 513" + " 1 -1" * 513 + "\n", (5, 2))
 body("2 0 256" + " 1 -1" * 256 + "\n10 -1\n2 -1 256" + " -1 -1000000" * 256 + "\n4 2 -1 1 -1\n", OK)
 
+# order 2: weighted bodies, `1 bound k` and k pairs of literal and weight. Bound, then k, then pair by pair, each number by form and then range; a minus in bound or weight is malformed
+for before, right, after, minus in [
+    ("1 0 1 5 ", "1", " 7 2 3 4 -6 8", False), ("1 0 1 5 1 7 ", "2", " 3 4 -6 8", False), ("1 0 1 5 1 7 2 ", "3", " 4 -6 8", True), ("1 0 1 5 1 7 2 3 ", "4", " -6 8", False),
+    ("1 0 1 5 1 7 2 3 4 ", "-6", " 8", True), ("1 0 1 5 1 7 2 3 4 -6 ", "8", "", False), ("1 1 2 5 6 1 0 1 ", "9", " 0", True), ("1 0 0 1 9 1 -1 ", "0", "", False),
+]:
+    place(before, right, after, minus, ["1000001", "4294967297", "18446744073709551617", big])
+for before, right, after in [("1 0 1 5 1 ", "7", " 2 3 4 -6 8"), ("1 0 0 1 ", "0", " 0"), ("1 1 2 5 6 1 ", "1000000000", " 1 3 4")]:
+    place(before, right, after, False, ["1000000001", "2147483648", "4294967296", "5294967296", "18446744073709551616", "18446744074709551616", big])
+for bound in ["0", "1", "9", "10", "999999", "1000000", "1000001", "999999999", "1000000000"]:
+    body(f"1 0 0 1 {bound} 0\n", OK)
+    body(f"1 0 1 3 1 {bound} 2 1 1 -2 5\n1 1 2 3 4 1 {bound} 1 -5 0\n", OK)
+for bound in ["-0", "-1", "-01", "--1", "-", "+1", "00", "01", "1-", "1.0", "- 1", "-1000000000", "-1000000001", "0000000001", "1e9", "1x", ""]:
+    body(f"1 0 0 1 {bound} 0\n", (2, 2))
+for bound in ["1000000001", "1999999999", "4294967295", "4294967297", "18446744073709551615", "18446744073709551617"]:
+    body(f"1 0 0 1 {bound} 0\n", (4, 2))
+for w in ["0", "1", "999999", "1000000"]:
+    body(f"1 0 0 1 5 1 1 {w}\n", OK)
+    body(f"1 0 1 9 1 5 4 1 {w} -1 {w} 1 {w} -2 0\n", OK)
+for w in ["-0", "-1", "-01", "-", "--1", "+1", "+0", "00", "01", "1-", "1.5", "-1000000", "-1000001", "1x", "- 1"]:
+    body(f"1 0 0 1 5 1 1 {w}\n", (2, 2))
+    body(f"1 0 0 1 5 2 -3 4 1 {w}\n", (2, 2))
+for w in ["1000001", "1000000000", "2147483648", "4294967295", "4294967296", "4295967296", "18446744073709551616", big]:
+    body(f"1 0 0 1 5 1 1 {w}\n", (4, 2))
+for line, answer in [
+    # k and b at their edges; k = 0; a plain head with two atoms comes before b
+    ("1 0 0 1 0 0", OK), ("1 1 0 1 0 0", OK), ("1 0 1 7 1 0 0", OK), ("1 0 0 1 1000000000 0", OK), ("1 0 0 1 5 1025", (4, 2)), ("1 0 0 2 5 0", (4, 2)), ("1 0 0 2", (4, 2)), ("1 0 0 -1 5 0", (2, 2)),
+    ("1 0 0 1 5 1024" + " -7 0" * 1024, OK), ("1 1 1024" + " 1024" * 1024 + " 1 1000000000 1024" + " -1024 1000000" * 1024, OK), ("1 0 2 1 2 1 0 0", (3, 2)), ("1 0 1025 1", (4, 2)),
+    # a literal at its edges
+    ("1 0 0 1 5 1 1024 1", OK), ("1 0 0 1 5 1 -1024 1", OK), ("1 0 0 1 5 1 1025 1", (4, 2)), ("1 0 0 1 5 1 -1025 1", (4, 2)), ("1 0 0 1 5 1 0 1", (4, 2)), ("1 0 0 1 5 1 -0 1", (2, 2)),
+    # what is missing, what is too much
+    ("1 0 0 1 ", (2, 2)), ("1 0 0 1 5", (2, 2)), ("1 0 0 1 5 ", (2, 2)), ("1 0 0 1 5 1", (2, 2)), ("1 0 0 1 5 1 2", (2, 2)), ("1 0 0 1 5 1 2 ", (2, 2)), ("1 0 0 1 5 2 1 1", (2, 2)), ("1 0 0 1 5 2 1 1 2", (2, 2)),
+    ("1 0 0 1 5 1 1 1 ", (2, 2)), ("1 0 0 1 5 1 1 1 2", (2, 2)), ("1 0 0 1 5 1 1 1 2 1", (2, 2)), ("1 0 0 1 5 0 1", (2, 2)), ("1 0 0 1 5 0 1 1", (2, 2)), ("1 0 0 1 5 0 ", (2, 2)), ("1 0 0 1  5 0", (2, 2)),
+    ("1 0 0 1 5  0", (2, 2)), ("1 0 0 1 5 1  1 1", (2, 2)), ("1 0 0 1 5 1 1  1", (2, 2)), ("1 0 0 1 5 1 1\t1", (2, 2)), ("1 0 0 15 0", (4, 2)), ("1 0 0 0 5 1 1 1", (2, 2)), ("1 0 0 0 1 5 1", (2, 2)),
+    # the first that is wrong counts
+    ("1 0 0 1 1000000001 x", (4, 2)), ("1 0 0 1 x 2000", (2, 2)), ("1 0 0 1 -0 2000", (2, 2)), ("1 0 0 1 -1 x", (2, 2)), ("1 0 0 1 1000000001x 0", (2, 2)), ("1 0 0 1 1000000001 -1", (4, 2)),
+    ("1 0 0 1 5 1025 x", (4, 2)), ("1 0 0 1 5 x 0", (2, 2)), ("1 0 0 1 5 -1 0", (2, 2)), ("1 0 0 1 5 1025 0 -1", (4, 2)), ("1 0 0 1 5 1 0 x", (4, 2)), ("1 0 0 1 5 1 0 -1", (4, 2)), ("1 0 0 1 5 1 x 1000001", (2, 2)),
+    ("1 0 0 1 5 2 1 1000001 x 1", (4, 2)), ("1 0 0 1 5 2 1 x 0 1", (2, 2)), ("1 0 0 1 5 2 1 -1 0 1", (2, 2)), ("1 0 0 1 5 2 1 1 0 x", (4, 2)), ("1 0 0 1 5 2 1 1 x 1000001", (2, 2)), ("1 0 0 1 5 2 1 1000001", (4, 2)),
+    ("1 0 1 1025 1 x", (4, 2)), ("1 0 1 x 1 1000000001", (2, 2)), ("1 2 0 1 -1 0", (4, 2)), ("1 0 0 1x 5 0", (2, 2)), ("1 0 0 01 5 0", (2, 2)), ("1 0 0 2 -1", (4, 2)), ("1 1 2 3 4 1 0", (2, 2)),
+]:
+    body(line + "\n", answer)
+case(H.decode() + "1 0 0 1 5 1 1 1", (2, 2))
+case(H.decode() + "1 0 0 1 5 1 1 1000001", (4, 2))
+case(H.decode() + "1 0 0 1 1000000001", (4, 2))
+case(H.decode() + "1 0 0 1 5", (2, 2))
+# the order's samples; one literal twice, with both signs and with either first; an atom that stands in a pair of weight 0 only; comments between
+body("1 1 3 1 2 3 0 0\n1 0 0 1 5 3 1 2 2 3 3 4\n2 0 3 -1 2 -2 3 -3 4\n", OK)
+for line in ["1 0 1 1 1 2 2 -2 1 -2 1", "1 0 1 1 1 1 1 1 1", "1 0 1 1 1 1 1 -1 1", "1 0 0 1 1 2 1 1 -1 1", "1 0 0 1 1 2 -1 1 1 1", "1 0 0 1 2 3 1 1 2 0 1 1", "1 0 0 1 2 3 1 0 2 1 -1 0", "1 1 2 1 2 1 3 2 900 0 -900 0"]:
+    body(line + "\n2 0 1 5 1\n", OK)
+    body(f"10 {line}\n{line}\n10\n1 0 0 0 1 3\n{line}\n10 1 0 0 1 -1 0\n", OK)
+for k in range(1, 8):
+    body("".join(f"1 0 1 {i} 1 {i} 2 {i + 1} {i} -{i} 1\n10 {i}\n" for i in range(1, k)) + "1 0 1 1 1 5 1 2 -1\n", (2, 2 * k))
+# each pair takes one place of the 16,384, the bound none
+pairs = "1 0 0 1 9 1024" + " 1 1" * 1024 + "\n"
+body(pairs * 15 + "1 0 0 0 1024" + " 1" * 1024 + "\n1 0 0 1 7 0\n1 1 0 1 0 0\n1 0 0 0 0\n", OK)
+body(pairs * 15 + "1 0 0 0 1023" + " 1" * 1023 + "\n1 0 0 1 7 1 5 0\n", OK)
+body(pairs * 15 + "1 0 0 0 1024" + " 1" * 1024 + "\n1 0 0 1 7 1 5 0\n", (5, 18))
+body(pairs * 15 + "1 0 0 0 1023" + " 1" * 1023 + "\n1 0 1 1 1 7 1 5 0\n", (5, 18))
+body(pairs * 15 + "1 1 600" + " 2" * 600 + " 1 1 424" + " 3 1" * 424 + "\n", OK)
+case(H.decode() + pairs * 15 + "1 0 0 0 1024" + " 1" * 1024 + "\n1 0 0 1 7 1 5 0", (2, 18))
+body("1 0 0 1 1 0\n" * 2048, OK)
+body("1 0 0 1 1 0\n" * 2049, (5, 2050))
+
 # the accepted part, after form and range
 for line, answer in [
-    ("1 0 2 1 2 0 0", (3, 2)), ("1 0 1024", (3, 2)), ("1 0 1025", (4, 2)), ("1 0 2x", (2, 2)), ("1 0 02", (2, 2)), ("1 0 2 rubbish", (3, 2)), ("1 0 0 1", (3, 2)), ("1 0 0 1 5 x", (3, 2)),
-    ("1 0 0 1x", (2, 2)), ("1 0 0 2 x", (4, 2)), ("1 1 2 3 4 1 0", (3, 2)), ("1 2 01", (4, 2)), ("1 2x 9999", (2, 2)), ("1 1025x 0", (2, 2)), ("1 0 1 0x 0 0", (2, 2)), ("1 0 1 2000x 0 0", (2, 2)),
+    ("1 0 2 1 2 0 0", (3, 2)), ("1 0 1024", (3, 2)), ("1 0 1025", (4, 2)), ("1 0 2x", (2, 2)), ("1 0 02", (2, 2)), ("1 0 2 rubbish", (3, 2)), ("1 0 2 1 2 1 5 0", (3, 2)), ("1 0 0 1", (2, 2)), ("1 0 0 1 5 x", (2, 2)),
+    ("1 0 0 1x", (2, 2)), ("1 0 0 2 x", (4, 2)), ("1 1 2 3 4 1 0", (2, 2)), ("1 2 01", (4, 2)), ("1 2x 9999", (2, 2)), ("1 1025x 0", (2, 2)), ("1 0 1 0x 0 0", (2, 2)), ("1 0 1 2000x 0 0", (2, 2)),
     ("1 0 0 0 2 0 x", (4, 2)), ("1 0 0 0 2 x 0", (2, 2)), ("2 2000 x", (4, 2)), ("2 x 2000", (2, 2)), ("2 0 1 2000 x", (4, 2)), ("2 0 1 x 2000000", (2, 2)), ("4 99 a", (4, 2)), ("4 1 \x07 2000", (2, 2)), ("4 1 a 2000 x", (4, 2)),
 ]:
     body(line + "\n", answer)
 case(H.decode() + "1 0 2", (3, 2))
-case(H.decode() + "1 0 0 1", (3, 2))
+case(H.decode() + "1 0 0 1", (2, 2))
 case(H.decode() + "1 0 0 0 1 1025", (4, 2))
 
 # names

@@ -7,7 +7,8 @@ def penalty(literal, weight):
 
 
 def free_literal(atom, rules, entries):
-    """In, if the atom heads a choice rule without a body and no entry wishes it out; else out. Rules are (kind, heads, body), kind 1 for a choice; entries (priority, literal, weight)."""
-    chosen = any(kind == 1 and not body and atom in heads for kind, heads, body in rules)
+    """In, if the atom heads a choice rule without a body (a weighted one is a body, whatever is in it) and no entry wishes it out; else out. Rules are (kind, heads, body), kind 1 for a
+    choice, a body as in tests/bodies.py; entries (priority, literal, weight)."""
+    chosen = any(kind == 1 and body == [] and atom in heads for kind, heads, body in rules)
     paid = any(penalty(literal, weight)[0] == atom and weight != 0 for _, literal, weight in entries)
     return atom if chosen and not paid else -atom

@@ -3,18 +3,18 @@
 
     apt-get install clasp && tests/models/make.py && tests/optima.py
 
-The programs are those of crates/models, some with cores, strata and levels written by hand, forty random ones and fifty with weights of both signs. The costs at the end, or that there is no
+The programs are those of crates/models, some with cores, strata and levels written by hand, forty random ones, fifty with weights of both signs and sixty with weighted bodies. The costs at the end, or that there is no
 stable model, are clasp's (Debian's package clasp). The lines of single advances and the number of advances come from tests/optima_model.py, whose end must be
 clasp's too. No line comes from the project's own programs.
 """
 import os
 import random
-import re
-import subprocess
 import sys
 
 HERE = os.path.dirname(os.path.abspath(__file__))
 sys.path.insert(0, HERE)
+import clasps
+from bodies import said, some_sum
 from optima_model import Machine, holds, read
 
 CRATES = os.path.join(HERE, '..', 'crates')
@@ -90,12 +90,62 @@ REWARDS = {
 }
 
 
-def random_program(seed, signed=False):
+def weights(bound, pairs):
+    """A weighted body."""
+    return f'1 {bound} {len(pairs)}' + ''.join(f' {l} {w}' for l, w in pairs) + '\n'
+
+
+def never(bound, pairs):
+    return '1 0 0 ' + weights(bound, pairs)
+
+
+def largest_sums():
+    """The largest sums: 1,024 pairs of weight 1,000,000 against a bound of 1,000,000,000, one sign for each atom and both. At most 999 atoms are in, and at most 499 odd ones, each of which counts
+    1,000,000 in and 999,999 out; the plain rule's body counts 512,000,000 whatever is in."""
+    million, odd = 1000000, range(1, 1025, 2)
+    return ('1 1 1024 ' + ' '.join(map(str, range(1, 1025))) + ' 0 0\n' + never(1000 * million, [(a, million) for a in range(1, 1025)])
+            + '1 0 1 999 ' + weights(1000 * million, [(l, million) for a in range(1, 513) for l in (a, -a)])
+            + never(512 * (million - 1) + 500, [(a, million) for a in odd] + [(-a, million - 1) for a in odd]) + '1 0 0 0 2 1022 1023\n2 0 3 1000 -5 1022 -3 1023 -3\n')
+
+
+# order 2, weighted bodies
+SUMS = {
+    # at least three of six, and two to four of them, as in 'threeofsix': cores of derived soft literals
+    'atleast': CHOICE6 + never(4, [(-a, 1) for a in range(1, 7)]) + '2 0 6 1 1 2 1 3 1 4 1 5 1 6 1\n',
+    'fourbysums': CHOICE6 + never(3, [(-a, 1) for a in range(1, 7)]) + '2 -1 6 1 9 2 7 3 5 4 5 5 3 6 1\n',
+    'twotofour': CHOICE6 + never(5, [(a, 1) for a in range(1, 7)]) + never(5, [(-a, 1) for a in range(1, 7)]) + '2 1 6 1 2 2 2 3 1 -4 1 -5 3 -6 3\n2 0 6 -1 1 -2 1 -3 1 4 1 5 1 6 1\n',
+    # weights that stand in each other's way, with rewards; a second sum on the same atoms
+    'knapsack': CHOICE6 + never(11, [(1, 7), (2, 5), (3, 4), (4, 3), (5, 2), (6, 1)]) + '2 0 6 1 -13 2 -9 3 -7 4 -5 5 -3 6 -1\n',
+    'twosacks': CHOICE6 + never(11, [(1, 7), (2, 5), (3, 4), (4, 3), (5, 2), (6, 1)]) + never(6, [(1, 1), (2, 2), (3, 3), (4, 1), (5, 2), (6, 3)])
+                + '2 1 3 -1 6 -2 5 -3 4\n2 0 6 1 -13 2 -9 3 -7 4 -5 5 -3 6 -1\n',
+    # two tanks of 3 and 2 places for four fish, of which two are large
+    'tanks': ''.join(f'1 1 2 {a} {a + 4} 0 0\n1 0 0 0 2 {a} {a + 4}\n1 0 0 0 2 -{a} -{a + 4}\n' for a in range(1, 5)) + never(4, [(1, 2), (2, 1), (3, 1), (4, 2)])
+             + never(4, [(5, 2), (6, 1), (7, 1), (8, 2)]) + '2 1 4 1 3 2 1 7 2 8 2\n2 0 2 5 1 6 1\n',
+    # what is noted: a literal with its own weight; none, where a literal stands twice; by what it is worth where an atom has both signs; a head; a literal where the head is out; the first of two
+    'noted': CHOICE3 + never(3, [(1, 1), (-2, 3), (3, 3)]) + '2 0 3 1 1 -2 1 -3 1\n',
+    'notnoted': CHOICE3 + never(2, [(1, 1), (1, 1)]) + never(4, [(2, 3), (3, 1), (2, 1)]) + '2 0 2 -1 1 -2 2\n',
+    'worth': CHOICE3 + never(5, [(1, 4), (-1, 2), (2, 3), (-2, 1)]) + never(3, [(-3, 3), (3, 1), (-3, 1)]) + '2 0 3 -1 1 -2 1 3 1\n',
+    'headnoted': CHOICE3 + '1 0 1 4 ' + weights(2, [(1, 2), (-1, 3)]) + '1 0 1 5 ' + weights(0, []) + '1 0 1 6 ' + weights(3, [(4, 2), (5, 1)]) + '2 0 1 6 4\n',
+    'headout': CHOICE4 + '1 0 1 5 ' + weights(5, [(1, 2), (2, 3), (3, 4)]) + '1 0 0 0 1 5\n2 0 3 -1 1 -2 2 -3 2\n',
+    'firstnoted': CHOICE4 + '1 0 0 0 2 3 4\n' + never(2, [(1, 1), (2, 1), (4, 1)]) + '1 0 0 0 2 1 2\n' + never(1, [(-3, 1), (-4, 0)]) + '2 0 2 -1 1 -2 1\n',
+    # the head in its own body, with either sign: nothing is noted by both
+    'ownhead': CHOICE3 + '1 0 1 4 ' + weights(2, [(-4, 1), (1, 1)]) + '1 0 1 5 ' + weights(2, [(5, 1), (2, 2)]) + '2 0 3 -1 3 -2 1 5 2\n',
+    # choices with weighted bodies are never broken; without a pair their atoms are tried out first, those of a choice without a body in
+    'outfirst': '1 1 2 1 2 1 0 0\n1 1 1 3 0 0\n1 0 0 0 2 -1 -3\n2 0 1 -2 1\n',
+    'chosensum': '1 1 1 1 0 0\n1 1 2 2 3 ' + weights(2, [(1, 2), (-4, 1)]) + '1 1 2 4 5 ' + weights(3, [(2, 2), (3, 2)]) + '1 0 0 0 1 -5\n2 0 3 2 5 3 4 4 1\n',
+    # weight 0 and bound 0 beside costs; a bound that nothing reaches
+    'idle': CHOICE3 + never(1, [(1, 0), (2, 0), (-3, 0)]) + never(1000000000, [(1, 1000000), (-1, 1000000)]) + '1 0 1 4 ' + weights(0, [(1, 1)]) + '2 0 4 -1 1 -2 2 3 3 4 5\n',
+    'largesums': largest_sums(),
+}
+
+
+def random_program(seed, signed=False, weighted=False):
     """8 to 20 atoms (5 to 14 with `signed`, for weights of both signs), one to three levels with priorities of either sign; choices, plain rules, constraints, loops, duplicates,
-    weight 0."""
+    weight 0; with `weighted` half of the bodies are sums."""
     r = random.Random(1000 + seed)
     n = r.randint(5, 14) if signed else r.randint(8, 20)
     literal = lambda: r.choice((1, -1)) * r.randint(1, n)
+    is_sum = lambda: weighted and r.random() < 0.5
     lines = []
     if r.random() < 0.7:                                    # a wide choice, so that costs decide
         heads = r.sample(range(1, n + 1), r.randint(3, min(n, 9)))
@@ -104,18 +154,20 @@ def random_program(seed, signed=False):
         body = [literal() for _ in range(r.choice((0, 1, 1, 2, 2, 3, 4)))]
         if body and r.random() < 0.1:
             body.append(body[0])                            # a duplicate
+        if is_sum():
+            body = some_sum(r, literal)
         shape = r.random()
         if shape < 0.3:
             heads = [r.randint(1, n) for _ in range(r.randint(0, 4))]
-            lines.append([1, 1, len(heads), *heads, 0, len(body), *body])
+            lines.append([1, 1, len(heads), *heads, *said(body)])
         elif shape < 0.75:
-            lines.append([1, 0, 1, r.randint(1, n), 0, len(body), *body])
+            lines.append([1, 0, 1, r.randint(1, n), *said(body)])
         elif shape < 0.85:                                  # a loop of two or three
             loop = r.sample(range(1, n + 1), r.choice((2, 3)))
             lines += [[1, 0, 1, a, 0, 1, b] for a, b in zip(loop, loop[1:] + loop[:1])]
         else:
-            body = [literal() for _ in range(r.choice((2, 2, 3, 4)))]
-            lines.append([1, 0, 0, 0, len(body), *body])
+            body = some_sum(r, literal) if is_sum() else [literal() for _ in range(r.choice((2, 2, 3, 4)))]
+            lines.append([1, 0, 0, *said(body)])
     for p in r.sample(range(-4, 5), r.randint(1, 3)):
         for _ in range(r.choice((1, 1, 2))):
             sign = lambda: r.choice((1, -1)) if signed else 1
@@ -149,18 +201,11 @@ def largest():
 def clasp_end(text):
     """The costs of an optimal stable model level by level, or None: clasp's model, summed here, and compared with the figures that clasp itself prints."""
     n, _, priorities, entries = read(text)
-    body = [l for l in text.split('\n')[1:-2] if not l.startswith('4 ')]
-    given = '\n'.join(['asp 1 0 0', *body, *(f'4 {len(str(a)) + 1} x{a} 1 {a}' for a in range(1, n + 1)), '0']) + '\n'
-    out = subprocess.run(['clasp', '-n', '0', '--opt-mode=opt', '-'], input=given, capture_output=True, text=True).stdout
-    if 'UNSATISFIABLE' in out:
+    best = clasps.best(text, n)
+    if best is None:
         return None
-    assert 'OPTIMUM FOUND' in out or (not entries and 'SATISFIABLE' in out), out
-    model = {int(w[1:]) for w in re.findall(r'^Answer: \d+\n(.*)$', out, re.M)[-1].split()}
-    costs = [sum(w for q, l, w in entries if q == p and holds(model, l)) for p in priorities]
-    printed = re.findall(r'^Optimization: (.*)$', out, re.M)
-    if printed:
-        said = list(map(int, printed[-1].split()))
-        assert said == costs or said == [c for c, p in zip(costs, priorities) if any(q == p for q, _, _ in entries)], (said, costs)
+    costs = [sum(w for q, l, w in entries if q == p and holds(best[0], l)) for p in priorities]
+    assert best[1] == costs or best[1] == [c for c, p in zip(costs, priorities) if any(q == p for q, _, _ in entries)], (best[1], costs)
     return costs
 
 
@@ -169,11 +214,11 @@ def starts(machine):
     return [sum(min(w, 0) for q, _, w in machine.entries if q == p) for p in machine.priorities]
 
 
-def some(shape, count, seed, signed, texts, expected):
+def some(shape, count, seed, how, texts, expected):
     """So many random programs that end soon, with few that have no costs to find; the seeds tried."""
     found = dull = 0
     while found < count:
-        name, text = f'{shape}{found:02}', f'asp 1 0 0\n{random_program(seed, signed)}0\n'
+        name, text = f'{shape}{found:02}', f'asp 1 0 0\n{random_program(seed, **how)}0\n'
         seed += 1
         machine = Machine(text)
         while machine.status == 'running' and machine.count <= MOST:
@@ -213,10 +258,11 @@ def main():
     texts = {}
     for name in open(os.path.join(models, 'args')).read().split():
         texts[name] = open(os.path.join(models, 'data', name)).read()
-    texts |= {name: f'asp 1 0 0\n{body}0\n' for name, body in {**BY_HAND, 'largest': largest(), **REWARDS}.items()}
+    texts |= {name: f'asp 1 0 0\n{body}0\n' for name, body in {**BY_HAND, 'largest': largest(), **REWARDS, **SUMS}.items()}
     expected = {name: lines(name, text) for name, text in texts.items()}
-    seeds = some('mixed', 40, 0, False, texts, expected)
-    seeds += some('rewards', 50, 500, True, texts, expected) - 500
+    seeds = some('mixed', 40, 0, {}, texts, expected)
+    seeds += some('rewards', 50, 500, {'signed': True}, texts, expected) - 500
+    seeds += some('weighed', 60, 5000, {'signed': True, 'weighted': True}, texts, expected) - 5000
     os.makedirs(os.path.join(OUT, 'data'), exist_ok=True)
     for old in os.listdir(os.path.join(OUT, 'data')):
         os.remove(os.path.join(OUT, 'data', old))

@@ -1,13 +1,15 @@
 #!/usr/bin/env python3
-"""Document 01's machine with order 1's signed weights, advance by advance, with the parts that it leaves free as docs/DECISIONS.md says ("The free parts of the machine").
+"""Document 01's machine with order 1's signed weights and order 2's weighted bodies, advance by advance, with the parts that it leaves free as docs/DECISIONS.md says ("The free parts of the machine").
 
 Written from those papers and in their words, not from the code: sets are Python sets, a path is a list of literals with their marks, a wish is judged by
-counting its core's unmet members each time. "Broken in every set that agrees with the path" is tried out over every choice for the undecided atoms of the rule.
+counting its core's unmet members each time. "Broken in every set that agrees with the path" is tried out over every choice for the undecided atoms of the rule; for a weighted body
+it goes by the least that such a set counts (tests/bodies.py), which tests/weighing.py tries out in the same way.
 tests/optima.py uses it for the lines of single advances and for the number of advances; the costs at the end are clasp's. tests/service.py uses it as the
 machine of the service.
 """
 from itertools import product
 
+from bodies import Sum, body_holds, heard, literals
 from branching import free_literal, penalty
 
 WISHES = MEMBERS = 4096
@@ -28,10 +30,9 @@ def read(text):
         v = list(map(int, f))
         if v[0] == 1:
             h, m = v[1], v[2]
-            heads, body = v[3:3 + m], v[5 + m:]
-            assert v[3 + m] == 0 and v[4 + m] == len(body)
+            heads, body = v[3:3 + m], heard(v[3 + m:])
             rules.append((h, heads, body))
-            n = max([n] + heads + [abs(l) for l in body])
+            n = max([n] + heads + [abs(l) for l in literals(body)])
         else:
             assert v[0] == 2
             priorities.add(v[1])
@@ -47,13 +48,13 @@ def holds(m, l):
 
 def stable(m, rules):
     """"no constraint's body holds in M and M is the least set closed under this .." """
-    if any(h == 0 and not heads and all(holds(m, l) for l in body) for h, heads, body in rules):
+    if any(h == 0 and not heads and body_holds(m, m, body) for h, heads, body in rules):
         return False
     least = set()
     while True:
         grown = set(least)
         for h, heads, body in rules:
-            if all(l in least if l > 0 else -l not in m for l in body):
+            if body_holds(m, least, body):
                 grown |= {a for a in heads if h == 0 or a in m}
         if grown == least:
             return least == m
@@ -63,7 +64,7 @@ def stable(m, rules):
 def broken(m, rule):
     """"a plain rule or constraint where its body holds and no head atom is in, a choice rule never" """
     h, heads, body = rule
-    return h == 0 and all(holds(m, l) for l in body) and not any(a in m for a in heads)
+    return h == 0 and body_holds(m, m, body) and not any(a in m for a in heads)
 
 
 class Machine:
@@ -101,6 +102,8 @@ class Machine:
     def always_broken(self, path, rule):
         """Broken in every set that agrees with the path: only the rule's own atoms matter."""
         h, heads, body = rule
+        if isinstance(body, Sum):
+            return h == 0 and all(-a in path for a in heads) and body.least(path) >= body.bound
         if h == 1 or any(-l in path for l in body) or any(a in path for a in heads):
             return False                     # a choice rule; or in no set that agrees does the body hold, or in each a head atom is in
         atoms = sorted({abs(l) for l in heads + body})
@@ -108,18 +111,27 @@ class Machine:
         inside = {a for a in atoms if a in path}
         return all(broken(inside | {a for a, b in zip(free, bits) if b}, rule) for bits in product((False, True), repeat=len(free)))
 
+    def breaker(self, path, rule):
+        """The literal that would break the rule, as far as it is noted; None where there is none."""
+        h, heads, body = rule
+        if h == 1 or any(a in path for a in heads):
+            return None
+        if isinstance(body, Sum):            # the head's complement where the body counts enough in every set that agrees; or a literal of the body where the head is out
+            if body.least(path) >= body.bound:
+                return next((-a for a in heads if -a not in path), None)
+            return body.breaker(path) if all(-a in path for a in heads) else None
+        free = {abs(l) for l in heads + body if l not in path and -l not in path}
+        # where two atoms of the rule are undecided, whatever is added, the other can spare it
+        return next((l for a in free for l in (a, -a) if self.always_broken(path | {l}, rule)), None) if len(free) == 1 else None
+
     def branch(self, path, assumed):
         """The complement of the first literal that would break a rule, rule by rule; else the literal that the first assumed wish of an entry with an undecided
         atom wishes for; else the lowest undecided atom, by tests/branching.py."""
         decided = {abs(l) for l in path}
         for rule in self.rules:
-            free = {abs(l) for l in rule[1] + rule[2]} - decided if rule[0] == 0 else ()
-            if len(free) > 1:
-                continue                     # whatever is added, another undecided atom of the rule can spare it
-            for a in free:
-                for l in (a, -a):
-                    if self.always_broken(path | {l}, rule):
-                        return -l
+            noted = self.breaker(path, rule)
+            if noted is not None:
+                return -noted
         for i in assumed:
             if self.wishes[i][0] == 'entry' and abs(self.wishes[i][1]) not in decided:
                 return -self.wishes[i][1]

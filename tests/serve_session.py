@@ -1,5 +1,5 @@
 #!/usr/bin/env python3
-"""Writes crates/serve/stdin and stdout: a session with every command, every refusal, lines that are no command, and several programs one after another, with weights of both signs too.
+"""Writes crates/serve/stdin and stdout: a session with every command, every refusal, lines that are no command, and several programs one after another, with weights of both signs and weighted bodies too.
 
 The commands stand here. What `serve` has to print for them comes from tests/service.py, the model of document 01, and not from the program.
 """
@@ -71,6 +71,35 @@ REWARDS = [
     program(EITHER + '2 7 1 2 -1\n2 -7 2 1 -1000000 2 1000000\n4 4 both 2 1 2\n4 3 two 1 2\n'), 'look', *END, 'shown 0', 'shown 1',
 ]
 
+CAPACITY = '1 1 3 1 2 3 0 0\n1 0 0 1 5 3 1 2 2 3 3 4\n2 0 3 -1 2 -2 3 -3 4\n'
+MILLIONS = ''.join(f' {a} 1000000' for a in range(1, 1025))
+# Order 2, weighted bodies.
+SUMS = [
+    program(CAPACITY), 'look', 'write', 'write 72', 'write 73', 'advance', 'advance', 'advance', 'look', 'run 2', 'look', *END,
+    program('1 0 1 1 1 2 2 -2 1 -2 1\n'), *END, program('1 0 1 1 1 1 1 1 1\n'), *END, program('1 0 1 1 1 1 1 -1 1\n'), *END,
+    # no set can keep them: incoherent in one advance
+    program('1 0 0 1 1 2 1 1 -1 1\n2 0 1 5 1\n'), 'look', 'advance', 'look', 'model', 'advance', program('1 0 0 1 0 0\n2 0 1 5 1\n'), 'run 0', 'advance', 'look', 'model', 'run 5',
+    # refused, with the program before them as it was: a minus, the ranges, what is missing, b = 2; both ends of the ranges
+    program('10 stays\n' + CAPACITY + '4 3 one 1 1\n'), load('asp 1 0 0\n1 0 0 1 -0 0\n0\n'), load('asp 1 0 0\n1 0 0 1 -1 0\n0\n'), load('asp 1 0 0\n1 0 0 1 1000000001 0\n0\n'),
+    load('asp 1 0 0\n1 0 0 1 5 1025\n0\n'), load('asp 1 0 0\n1 0 0 1 5 1 0 1\n0\n'), load('asp 1 0 0\n1 0 0 1 5 1 1 -0\n0\n'), load('asp 1 0 0\n1 0 0 1 5 1 1 -1\n0\n'),
+    load('asp 1 0 0\n1 0 0 1 5 1 1 1000001\n0\n'), load('asp 1 0 0\n1 0 0 1\n0\n'), load('asp 1 0 0\n1 0 0 1 5\n0\n'), load('asp 1 0 0\n1 0 0 1 5 2 1 1\n0\n'), load('asp 1 0 0\n1 0 0 2 5 0\n0\n'),
+    load('asp 1 0 0\n1 0 2 1 2 1 5 0\n0\n'), 'look', 'write', 'run 4', *END, 'shown 0',
+    program('1 1 2 1 2 1 0 0\n1 0 1 3 1 1000000000 2 1 1000000 2 0\n1 0 0 1 1000000 2 -1 999999 2 1\n'), 'write', *END,
+    # the same literal twice counts twice; an atom with both signs counts by the lesser side while it is undecided
+    program('1 1 3 1 2 3 0 0\n1 0 0 1 2 3 1 1 1 1 -2 1\n2 0 2 -1 1 -3 1\n'), 'run 3', 'look', *END,
+    program('1 1 3 1 2 3 0 0\n1 0 0 1 5 5 1 4 -1 2 2 3 -2 1 3 0\n2 1 2 -1 3 -2 2\n2 0 1 3 1\n'), 'run 3', 'look', 'run 3', 'look', *END,
+    # a loop through a sum; a choice by a sum; choices by a sum without a pair, which are tried out first
+    program('1 1 1 1 0 0\n1 0 1 2 1 2 3 1 1 3 1 -4 1\n1 0 1 3 1 2 2 2 2 1 1\n2 0 1 2 -1\n'), *END,
+    program('1 1 1 1 0 0\n1 1 2 2 3 1 2 2 1 2 -4 1\n1 1 2 4 5 1 3 2 2 2 3 2\n1 0 0 0 1 -5\n2 0 3 2 5 3 4 4 1\n'), 'run 10', 'look', *END,
+    program('1 1 2 1 2 1 0 0\n1 1 1 3 0 0\n'), 'run 4', 'model',
+    # at least three and at most four of six: cores inside cores
+    program('1 1 6 1 2 3 4 5 6 0 0\n1 0 0 1 4 6 -1 1 -2 1 -3 1 -4 1 -5 1 -6 1\n1 0 0 1 5 6 1 1 2 1 3 1 4 1 5 1 6 1\n2 1 6 1 9 2 7 3 5 4 5 5 3 6 1\n2 0 3 -1 1 -2 1 3 1\n'), 'run 60', 'look', *END,
+    # the largest sum against the largest bound; 16,384 places, each pair in one, and one pair more
+    program('1 1 1024' + ''.join(f' {a}' for a in range(1, 1025)) + f' 0 0\n1 0 0 1 1000000000 1024{MILLIONS}\n1 0 1 1000 1 1000000000 1024{MILLIONS}\n'), 'run 1000', 'look', *END,
+    program(('1 0 0 1 9 1024' + ' 1 1' * 1024 + '\n') * 15 + '1 0 0 0 1024' + ' 1' * 1024 + '\n1 0 0 1 7 0\n'), 'write 63749', 'run 1', 'look', *END,
+    program(('1 0 0 1 9 1024' + ' 1 1' * 1024 + '\n') * 15 + '1 0 0 0 1024' + ' 1' * 1024 + '\n1 0 0 1 7 1 2 0\n'), 'look',
+]
+
 SESSION = [
     # nothing loaded
     'look', 'advance', 'run 5', 'write', 'model', 'symbol 0', 'shown 0', '', 'clear',
@@ -91,6 +120,7 @@ SESSION = [
     program('1 0 1 1 0 1 1\n'), 'run 1', 'look', 'run 1', 'run 1', 'look', 'model',
     program('10 ' + 'x' * (65536 - 12 - 4) + '\n'), 'write', 'advance', 'look', 'model', 'model 0',
     *REWARDS,
+    *SUMS,
     # 4,096 wishes on a level, and one too many
     program(many(57)), 'run 8000', 'look', 'run 4294967295', 'look', 'model', 'shown 1',
     program(many(58)), 'run 4294967295', 'look', 'model', 'shown 1', 'shown 0', 'advance', 'run 3',

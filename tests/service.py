@@ -1,5 +1,5 @@
 #!/usr/bin/env python3
-"""The service of document 01 with order 1's signed weights, and the program `serve` over it, as an independent model in Python.
+"""The service of document 01 with order 1's signed weights and order 2's weighted bodies, and the program `serve` over it, as an independent model in Python.
 
 Written from document 01 ("The calls", "Refused because ..") and from what is said of `serve` in print, not from the code. The text is read by
 tests/aspif_reader.py, the machine is that of tests/optima_model.py. Each call answers with the bytes that `serve` prints for it.
@@ -10,6 +10,7 @@ import re
 import sys
 
 from aspif_reader import Program, read
+from bodies import literals
 from optima_model import Machine, holds
 
 BIGGEST = 4294967295
@@ -33,7 +34,7 @@ def listed(word, figures):
 
 def parts(p):
     """n, rules, priorities highest first, entries: what a Machine is made of."""
-    atoms = [a for _, h, b in p.rules for a in h + b] + [z for _, z, _ in p.entries] + [z for _, c in p.symbols for z in c]
+    atoms = [a for _, h, b in p.rules for a in h + literals(b)] + [z for _, z, _ in p.entries] + [z for _, c in p.symbols for z in c]
     return max(map(abs, atoms), default=0), p.rules, sorted(p.levels, reverse=True), p.entries
 
 

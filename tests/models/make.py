@@ -6,12 +6,15 @@ their costs. The models and costs are clasp's (Debian's package clasp); the cost
 
 Every program has at most 12 atoms, since the test program tries every set of atoms.
 """
-import json
 import os
 import random
-import subprocess
+import sys
 
 HERE = os.path.dirname(os.path.abspath(__file__))
+sys.path.insert(0, os.path.dirname(HERE))
+import clasps
+from bodies import heard, literals, said, some_sum
+
 OUT = os.path.join(HERE, '..', '..', 'crates', 'models')
 HEADER = 'asp 1 0 0\n'
 
@@ -67,9 +70,40 @@ REWARDS = {
     'largereward': '1 1 2 1 2 0 0\n1 0 0 0 2 1 2\n2 1000 2 1 -1000000 2 -999999\n2 -1000 2 1 1000000 -2 -1000000\n',
 }
 
+# order 2, weighted bodies
+SUMS = {
+    # the order's samples: 5 is the best; {2} is none; nothing; no model; none, in one advance each
+    'capacity': '1 1 3 1 2 3 0 0\n1 0 0 1 5 3 1 2 2 3 3 4\n2 0 3 -1 2 -2 3 -3 4\n',
+    'sumnot': '1 0 1 1 1 2 2 -2 1 -2 1\n',
+    'sumself': '1 0 1 1 1 1 1 1 1\n',
+    'sumodd': '1 0 1 1 1 1 1 -1 1\n',
+    'sumboth': '1 0 0 1 1 2 1 1 -1 1\n2 0 1 5 1\n',
+    'sumnone': '1 0 0 1 0 0\n2 0 1 5 1\n',
+    # bound 0 with no pair and with some; a bound that is just reached, just not, never; weight 0, alone and beside others
+    'always': '1 0 1 1 1 0 0\n1 0 1 2 1 0 2 3 1 -4 0\n1 1 2 3 4 1 0 1 4 5\n',
+    'reached': '1 1 3 1 2 3 0 0\n1 0 1 4 1 5 3 1 2 2 3 3 4\n1 0 1 5 1 6 3 1 2 2 3 3 4\n1 0 1 6 1 9 3 1 2 2 3 3 4\n1 0 1 7 1 10 3 1 2 2 3 3 4\n',
+    'nothing': '1 1 2 1 2 0 0\n1 0 1 3 1 1 3 1 0 2 1 -1 0\n1 0 0 1 1 2 1 0 -1 0\n',
+    # the same literal twice counts twice; an atom with both signs, evenly and not
+    'doubledsum': '1 1 2 1 2 0 0\n1 0 1 3 1 2 2 1 1 1 1\n1 0 1 4 1 3 3 1 1 -2 1 1 1\n1 0 0 1 4 4 3 1 3 1 4 1 4 1\n',
+    'bothsigns': '1 1 3 1 2 3 0 0\n1 0 1 4 1 2 4 1 2 -1 1 2 1 -2 1\n1 0 0 1 6 5 1 3 2 2 -1 1 3 2 -3 1\n',
+    # at least and at most so many, by weights of 1
+    'twotothree': '1 1 5 1 2 3 4 5 0 0\n1 0 0 1 4 5 1 1 2 1 3 1 4 1 5 1\n1 0 0 1 4 5 -1 1 -2 1 -3 1 -4 1 -5 1\n2 1 5 1 1 2 2 3 3 4 4 5 5\n',
+    # loops through sums: the growing set counts, not M
+    'sumloop': '1 1 1 1 0 0\n1 0 1 2 1 2 3 1 1 3 1 -4 1\n1 0 1 3 1 2 2 2 2 1 1\n',
+    'unfounded': '1 0 1 1 1 1 2 2 1 3 1\n1 0 1 2 1 2 2 1 2 -3 1\n1 1 1 3 0 0\n',
+    'sumeven': '1 0 1 1 1 1 1 -2 3\n1 0 1 2 1 3 2 -1 2 -1 2\n1 0 1 3 1 2 2 1 1 2 2\n',
+    # choice heads with weighted bodies: one atom, several, the head's own atoms in the body
+    'sumchoice': '1 1 1 1 0 0\n1 1 2 2 3 1 2 2 1 2 -4 1\n1 1 3 4 5 4 1 3 3 2 2 3 2 -1 3\n2 0 4 -2 1 -3 2 -4 3 5 1\n',
+    'ownchoice': '1 1 2 1 4 1 1 3 2 2 -3 5 1 3\n',
+    'emptysum': '1 1 0 1 3 1 1 2\n1 1 2 1 2 1 1 0\n1 1 2 3 4 1 0 0\n',
+    # the largest figures
+    'largesum': '1 1 2 1 2 0 0\n1 0 1 3 1 2000000 3 1 1000000 2 1000000 -2 999999\n1 0 1 4 1 1000000000 2 1 1000000 2 1000000\n1 0 0 1 1999999 2 -1 1000000 2 999999\n',
+}
 
-def random_program(seed, signed=False):
-    """All shapes: facts, plain rules, choices, constraints, levels, duplicate literals, loops; with `signed` weights of both signs, on one literal too."""
+
+def random_program(seed, signed=False, weighted=False):
+    """All shapes: facts, plain rules, choices, constraints, levels, duplicate literals, loops; with `signed` weights of both signs, on one literal too; with `weighted` half of the bodies are
+    sums."""
     r = random.Random(seed)
     n = r.randint(5, 10)
 
@@ -79,15 +113,17 @@ def random_program(seed, signed=False):
     lines = []
     for _ in range(r.randint(n, 2 * n)):
         body = literals(r.choice((0, 1, 1, 2, 2, 3)))
+        if weighted and r.random() < 0.5:
+            body = some_sum(r, lambda: literals(1)[0])
         shape = r.random()
         if shape < 0.35:
             heads = [r.randint(1, n) for _ in range(r.randint(1, 3))]
-            lines.append(f'1 1 {len(heads)} ' + ' '.join(map(str, heads + [0, len(body)] + body)))
+            lines.append(f'1 1 {len(heads)} ' + ' '.join(map(str, heads + said(body))))
         elif shape < 0.9:
-            lines.append(' '.join(map(str, [1, 0, 1, r.randint(1, n), 0, len(body)] + body)))
+            lines.append(' '.join(map(str, [1, 0, 1, r.randint(1, n)] + said(body))))
         else:
             body = body or literals(2)
-            lines.append(' '.join(map(str, [1, 0, 0, 0, len(body)] + body)))
+            lines.append(' '.join(map(str, [1, 0, 0] + said(body))))
     for _ in range(r.randint(1, 4) if signed else r.randint(0, 3)):
         pairs = [(l, r.choice((-1000000, -5, -2, -2, -1, 0, 1, 2, 3, 1000000) if signed else (0, 1, 2, 5, 1000000))) for l in literals(r.randint(0, 4))]
         if signed and pairs:
@@ -97,14 +133,14 @@ def random_program(seed, signed=False):
 
 
 def statements(text):
-    """The rules' and entries' numbers of a text, read line by line; symbols are written by hand above and have no spaces."""
-    rules, entries, priorities, named = [], [], set(), 0
+    """The entries, the priorities and the highest atom of a text, read line by line; symbols are written by hand above and have no spaces."""
+    entries, priorities, named = [], set(), 0
     for line in text.splitlines()[1:-1]:
         f = line.split(' ')
         if f[0] == '1':
             v = list(map(int, f[1:]))
             m = v[1]
-            named = max([named] + v[2:2 + m] + [abs(l) for l in v[4 + m:]])
+            named = max([named] + v[2:2 + m] + [abs(l) for l in literals(heard(v[2 + m:]))])
         elif f[0] == '2':
             v = list(map(int, f[1:]))
             priorities.add(v[0])
@@ -116,30 +152,28 @@ def statements(text):
     return entries, sorted(priorities, reverse=True), named
 
 
-def clasp_models(text):
-    """All stable models by clasp, as sets of atoms with their costs: each atom is given a name of its own."""
-    _, _, n = statements(text)
-    body = [l for l in text.splitlines()[1:-1] if not l.startswith('4 ')]
-    shows = [f'4 {len(str(a)) + 1} x{a} 1 {a}' for a in range(1, n + 1)]
-    given = '\n'.join(['asp 1 0 0'] + body + shows + ['0']) + '\n'
-    out = json.loads(subprocess.run(['clasp', '-n', '0', '--opt-mode=enum', '--outf=2', '-'], input=given, capture_output=True, text=True).stdout)
-    assert out['Models']['More'] == 'no', out               # all of them
-    return {frozenset(int(x[1:]) for x in w['Value']): w.get('Costs', []) for w in out['Call'][-1].get('Witnesses', [])}
-
-
 def cost(model, entries, priorities):
     holds = lambda l: (l in model) if l > 0 else (-l not in model)
     return [sum(w for (q, l, w) in entries if q == p and holds(l)) for p in priorities]
 
 
+def some(shape, count, seed, how, programs):
+    """So many random programs with a choice of models."""
+    found = 0
+    while found < count:
+        text = random_program(seed, **how)
+        seed += 1
+        whole = HEADER + text + '0\n'
+        if len(clasps.models(whole, statements(whole)[2])) > 1:
+            programs[f'{shape}{found:02}'] = text
+            found += 1
+
+
 def main():
     programs = {**SAMPLES, **BY_HAND, **{f'random{s:02}': random_program(s) for s in range(24)}, **REWARDS}
-    seed = 24
-    while len(programs) < 46 + len(REWARDS) + 24:           # signed ones, with a choice of models
-        text = random_program(seed, True)
-        seed += 1
-        if len(clasp_models(HEADER + text + '0\n')) > 1:
-            programs[f'signed{len(programs) - 46 - len(REWARDS):02}'] = text
+    some('signed', 24, 24, {'signed': True}, programs)
+    programs |= SUMS
+    some('sums', 40, 500, {'signed': True, 'weighted': True}, programs)
     os.makedirs(os.path.join(OUT, 'data'), exist_ok=True)
     expected = []
     for name, text in programs.items():
@@ -148,7 +182,7 @@ def main():
             f.write(text)
         entries, priorities, n = statements(text)
         assert n <= 12, (name, n)
-        models = clasp_models(text)
+        models = clasps.models(text, n)
         expected.append(f'{name}: {len(models)} of {2 ** n}\n')
         for m in sorted(models, key=lambda m: sum(1 << a for a in m)):
             assert models[m] == cost(m, entries, priorities), (name, m, models[m])
