@@ -14,10 +14,8 @@ static int stable(void) {
   while (grown) {
     grown = 0;
     for (int r = 0; r < rulecount; r++) {
-      const int *l = &pool[rules[r].start], *body = l + rules[r].heads;
-      int k = 0;
-      while (k < rules[r].body && (body[k] > 0 ? least[body[k]] : value[-body[k]] < 0)) k++;
-      if (k < rules[r].body) continue;
+      const int *l = &pool[rules[r].start];
+      if (!body_holds(&rules[r], least)) continue;
       if (rules[r].heads == 0 && !rules[r].choice) return 0;   /* a constraint whose body is in the least set and outside M: its body holds, or M is not stable anyway */
       for (int i = 0; i < rules[r].heads; i++)
         if (!least[l[i]] && (!rules[r].choice || value[l[i]] > 0)) least[l[i]] = 1, grown = 1;
@@ -31,6 +29,15 @@ static int scan(int *breaker) {              /* whether a rule is broken in ever
   *breaker = 0;
   for (int r = 0; r < rulecount; r++) {
     if (rules[r].choice) continue;
+    if (rules[r].weighted) {                 /* a constraint, or a plain head: in, undecided or out */
+      int head = rules[r].heads ? pool[rules[r].start] : 0, t = head ? truth(head) : -1, lack, l;
+      if (t > 0) continue;
+      lack = lacks(&rules[r]);
+      if (lack <= 0 && t < 0) return 1;
+      l = lack <= 0 ? -head : t < 0 ? breaker_of(&rules[r], lack) : 0;
+      if (!*breaker) *breaker = l;
+      continue;
+    }
     const int *l = &pool[rules[r].start], *mid = l + rules[r].heads, *stop = mid + rules[r].body;
     int open = 0;
     for (; l < stop; l++) {

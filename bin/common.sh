@@ -31,11 +31,10 @@ explain() {
             case $3 in *.lp) why="$why; a program for gringo goes through bin/mate" ;; esac ;;
         2:"4 "*) why="malformed; if the name has a byte outside 32 to 126: write names in ASCII" ;;
         2:) why="malformed; the last line must be '0', and no line is empty" ;;
-        2:*) why="not a line of aspif 1.0.0: one space between numbers, none at the ends, no leading zeros, no -0; nothing after the line '0'" ;;
-        3:"1 0 0 1 "* | 3:"1 0 1 "* | 3:"1 1 "*) why="a bound or a sum (#count, #sum, 1 { .. } 1): say it by constraints on two, three or four atoms" ;;
-        3:"1 0 "*) why="several atoms in a head: write a choice and a constraint" ;;
+        2:*) why="not a line of aspif 1.0.0: one space between numbers, none at the ends, no leading zeros, no -0, no minus in a body's bound or weight; nothing after the line '0'" ;;
+        3:"1 "*) why="several atoms in a head: write a choice and a constraint" ;;
         3:*) why="a statement that is not read: #project, #external, assumptions, #heuristic, #edge or theory" ;;
-        4:*) why="a number out of range: atoms up to 1024, weights -1000000 to 1000000, priorities -1000 to 1000, names up to 64 bytes" ;;
+        4:*) why="a number out of range: atoms up to 1024, weights -1000000 to 1000000, a body's 0 to 1000000, bounds up to 1000000000, priorities -1000 to 1000, names up to 64 bytes" ;;
         5:*) why="too large: 65536 bytes, 2048 rules, 16384 literals, 512 entries, 8 priorities, 512 symbols" ;;
         *) why="refusal $1" ;;
     esac
