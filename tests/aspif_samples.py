@@ -1,5 +1,5 @@
 #!/usr/bin/env python3
-"""Writes crates/aspif/proofs/Samples.antt: texts of document 01 and of orders 1 and 2 with the answers that they give, proved by computation."""
+"""Writes crates/aspif/proofs/Samples.antt: texts of document 01 and orders 1 and 2 with the answers that they give, proved by computation."""
 import os
 H = "asp 1 0 0\n"
 PLAN = H + "1 1 2 1 2 0 0\n1 0 1 3 0 2 1 2\n1 0 0 0 2 -1 -2\n2 1 2 1 2 2 3\n4 1 a 1 1\n4 1 b 1 2\n0\n"
@@ -7,12 +7,12 @@ PLAN = H + "1 1 2 1 2 0 0\n1 0 1 3 0 2 1 2\n1 0 0 0 2 -1 -2\n2 1 2 1 2 2 3\n4 1 
 REWARDS = H + "2 0 5 1 -1000000 -2 1000000 1 -1 1 1 3 0\n0\n"
 REWARD_ENTRIES = "".join(f"record {{ priority = pos 0; literal = {z}; weight = {w} }} ∷ " for z, w in [
     ("pos 1", "negsuc 999999"), ("negsuc 1", "pos 1000000"), ("pos 1", "negsuc 0"), ("pos 1", "pos 1"), ("pos 3", "pos 0")]) + "[]"
-# both edges of a bound's and of a weight's range, a literal twice and with both signs, and a choice whose weighted body has no pair
-SUMS = H + "1 0 0 1 1000000000 4 1 1000000 -2 0 1 7 -1 1\n1 1 2 1 2 1 0 0\n1 0 1 3 1 2 1 -4 3\n0\n"
-WEIGHED = lambda *ps: "(" + "".join(f"record {{ literal = {z}; weight = {w} }} ∷ " for z, w in ps) + "[])"
-SUM_RULES = "".join(f"record {{ head = {h}; body = weighted {b} {ps} }} ∷ " for h, b, ps in [
-    ("constraint", 1000000000, WEIGHED(("pos 1", 1000000), ("negsuc 1", 0), ("pos 1", 7), ("negsuc 0", 1))),
-    ("choice (1 ∷ 2 ∷ [])", 0, WEIGHED()), ("plain 3", 2, WEIGHED(("negsuc 3", 3)))]) + "[]"
+# order 2: a weighted body, both edges of its ranges, one atom with both signs, none
+WEIGHTED = H + "1 1 3 1 2 3 0 0\n1 0 0 1 5 3 1 2 2 3 3 4\n2 0 3 -1 2 -2 3 -3 4\n0\n"
+EDGES = H + "1 0 1 1 1 1000000000 3 2 1000000 -2 0 2 1\n1 1 0 1 0 0\n0\n"
+
+def weighed(pairs):
+    return "".join(f"record {{ literal = {z}; weight = {w} }} ∷ " for z, w in pairs) + "[]"
 CASES = [
     ("no text", "", (1, 1)),
     ("line 1 without its byte 10", "asp 1 0 0", (2, 1)),
@@ -26,19 +26,18 @@ CASES = [
     ("kind 11", H + "11\n0\n", (4, 2)),
     ("h = 0 with m = 2", H + "1 0 2 1", (3, 2)),
     ("h = 0 with m = 1,025: range before accepted part", H + "1 0 1025", (4, 2)),
-    ("b = 2", H + "1 0 0 2 1 0\n0\n", (4, 2)),
-    ("b = 1 without a bound", H + "1 0 0 1\n0\n", (2, 2)),
-    ("a bound without a count", H + "1 0 0 1 5\n0\n", (2, 2)),
+    ("b = 1 and no bound", H + "1 0 0 1", (2, 2)),
+    ("b = 2", H + "1 0 0 2 5 0\n0\n", (4, 2)),
     ("bound 1,000,000,001", H + "1 0 0 1 1000000001 0\n0\n", (4, 2)),
-    ("bound -0", H + "1 0 0 1 -0 0\n0\n", (2, 2)),
-    ("bound -1", H + "1 0 0 1 -1 0\n0\n", (2, 2)),
-    ("1,025 pairs", H + "1 0 0 1 5 1025\n0\n", (4, 2)),
-    ("a pair without its weight", H + "1 0 0 1 5 1 2\n0\n", (2, 2)),
-    ("a pair too many", H + "1 0 0 1 5 1 2 1 3 1\n0\n", (2, 2)),
-    ("literal 0 in a pair, before its weight", H + "1 0 0 1 5 1 0 -1\n0\n", (4, 2)),
-    ("a body's weight 1,000,001", H + "1 0 0 1 5 1 2 1000001\n0\n", (4, 2)),
-    ("a body's weight -1", H + "1 0 0 1 5 1 2 -1\n0\n", (2, 2)),
-    ("a body's weight -0", H + "1 0 0 1 5 1 2 -0\n0\n", (2, 2)),
+    ("bound 99,999,999,999", H + "1 0 0 1 99999999999 0\n0\n", (4, 2)),
+    ("a bound with a minus", H + "1 0 0 1 -1 0\n0\n", (2, 2)),
+    ("a count of pairs of a body with a minus", H + "1 0 0 1 5 -1\n0\n", (2, 2)),
+    ("1,025 pairs", H + "1 0 0 1 5 1025", (4, 2)),
+    ("a pair's literal 0", H + "1 0 0 1 5 1 0 1\n0\n", (4, 2)),
+    ("a pair's weight 1,000,001", H + "1 0 0 1 5 1 1 1000001\n0\n", (4, 2)),
+    ("a pair's weight with a minus", H + "1 0 0 1 5 1 1 -1\n0\n", (2, 2)),
+    ("a pair's weight -0", H + "1 0 0 1 5 1 1 -0\n0\n", (2, 2)),
+    ("a pair without its weight", H + "1 0 0 1 5 1 1\n0\n", (2, 2)),
     ("atom 1,025 is 4", H + "1 0 1 1025 0 0\n0\n", (4, 2)),
     ("literal 0", H + "1 0 0 0 1 0\n0\n", (4, 2)),
     ("literal -0", H + "1 0 0 0 1 -0\n0\n", (2, 2)),
@@ -59,14 +58,14 @@ CASES = [
 def lits(text):
     return "".join(f"{ord(c)} ∷ " for c in text) + "[]"
 
-OPEN = "unfolding textOf pieces sameBytes lines steppedLine statement token number digits decimal natural signedToken signed atom literal more opening bodyCount ruleLine pair minimiseLine symbolLine ofKind fits sum insert"
-out = ["-- Texts of document 01 and of orders 1 and 2 with the answers that they give, each by computation. Written by tests/aspif_samples.py. Assumes nothing.",
+OPEN = "unfolding textOf pieces sameBytes lines steppedLine statement token number digits decimal natural signedToken signed atom literal more opening normalBody weighedField weightedBody bodyField ruleLine pair minimiseLine symbolLine ofKind fits sum insert"
+out = ["-- Texts of document 01 and orders 1 and 2 with the answers that they give, each by computation. Written by tests/aspif_samples.py. Assumes nothing.",
        "use mathlib.Core.Path.{_≡_, refl}",
        "use mathlib.Core.List.{List, [], _∷_, map}",
        "use Prim.Native.Nat.{ℕ}",
        "use lib.IntN.{pos, negsuc}",
        "use Rattle.asp.specs.Program.{normal, weighted, constraint, plain, choice, Program}",
-       "use Rattle.aspif_lines.specs.Text.{textOf, pieces, sameBytes, lines, steppedLine, statement, token, number, digits, decimal, natural, signedToken, signed, atom, literal, more, opening, bodyCount, ruleLine, pair, minimiseLine, symbolLine, ofKind, fits, sum, insert, accepted, refused}",
+       "use Rattle.aspif_lines.specs.Text.{textOf, pieces, sameBytes, lines, steppedLine, statement, token, number, digits, decimal, natural, signedToken, signed, atom, literal, more, opening, normalBody, weighedField, weightedBody, bodyField, ruleLine, pair, minimiseLine, symbolLine, ofKind, fits, sum, insert, accepted, refused}",
        "",
        "-- ---- `plan.aspif`", "",
        "abbrev pub plan : List ℕ", "plan = " + lits(PLAN), "",
@@ -90,7 +89,8 @@ out = ["-- Texts of document 01 and of orders 1 and 2 with the answers that they
        "-- ---- order 1: weights below zero, which write-out gives back", "",
        "pub rewards-read : textOf (" + lits(REWARDS) + ") ≡ accepted (record { rules = []; priorities = pos 0 ∷ []; entries = " + REWARD_ENTRIES + "; symbols = [] }) (" + lits(REWARDS) + ")", OPEN, "rewards-read = refl", "",
        "-- ---- order 2: weighted bodies, which write-out gives back", "",
-       "pub sums-read : textOf (" + lits(SUMS) + ") ≡ accepted (record { rules = " + SUM_RULES + "; priorities = []; entries = []; symbols = [] }) (" + lits(SUMS) + ")", OPEN, "sums-read = refl", "",
+       "pub weighted-reads : textOf (" + lits(WEIGHTED) + ") ≡ accepted (record { rules = record { head = choice (1 ∷ 2 ∷ 3 ∷ []); body = normal [] } ∷ record { head = constraint; body = weighted 5 (" + weighed([("pos 1", 2), ("pos 2", 3), ("pos 3", 4)]) + ") } ∷ []; priorities = pos 0 ∷ []; entries = " + "".join(f"record {{ priority = pos 0; literal = negsuc {a - 1}; weight = pos {a + 1} }} ∷ " for a in (1, 2, 3)) + "[]; symbols = [] }) (" + lits(WEIGHTED) + ")", OPEN, "weighted-reads = refl", "",
+       "pub edges-read : textOf (" + lits(EDGES) + ") ≡ accepted (record { rules = record { head = plain 1; body = weighted 1000000000 (" + weighed([("pos 2", 1000000), ("negsuc 1", 0), ("pos 2", 1)]) + ") } ∷ record { head = choice []; body = weighted 0 [] } ∷ []; priorities = []; entries = []; symbols = [] }) (" + lits(EDGES) + ")", OPEN, "edges-read = refl", "",
        "-- ---- refusals, as one table", "",
        "pub record Case : Type 0 where", "  pub text : List ℕ", "  pub number : ℕ", "  pub line : ℕ", "",
        "abbrev pub cases : List Case", "cases ="]

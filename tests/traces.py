@@ -4,7 +4,9 @@ docs/DECISIONS.md.
 
 Nothing here goes by conditions or by values: a rule or a wish is broken in every set that agrees with the path if it is broken in each subset of the atoms
 that agrees, tried one by one; stable models are found by trying every subset.  Usage: python3 tests/traces.py > crates/search_traces/stdout
+The programs of order 2 as tables: python3 tests/traces.py --weighted > crates/search_traces/src/weighted.rt
 """
+import sys
 from itertools import combinations
 
 
@@ -118,6 +120,36 @@ def run(name, n, rules, wishes, out):
             out.append('%s ended' % word); out.append('core' + ''.join(' %d' % i for i in sorted(blamed))); break
         out.append(word + show())
     out.append('steps %d' % steps)
+
+def is_weighted(p): return any(isinstance(body, tuple) for _, _, body in p[2])
+
+def tables(rules):
+    """The pool and the rows of asp's tables: a weighted body has its bound and its weights behind its literals."""
+    pool, rows = [], []
+    for kind, heads, body in rules:
+        rows += [kind, len(pool), len(heads), len(body[1]) if isinstance(body, tuple) else len(body)]
+        if isinstance(body, tuple):
+            lits = [l for l, _ in body[1]]
+            rows[-4] += 4 if any(-l in lits for l in lits) else 2
+            pool += heads + lits + [body[0]] + [w for _, w in body[1]]
+        else:
+            pool += heads + body
+    return pool, rows
+
+NAMES = ['capacity', 'one_or_two', 'both_signs', 'nothing', 'twice', 'worth', 'not_twice', 'itself_weighed', 'not_itself_weighed', 'head_by_sum', 'choice_by_sum']
+
+def function(name, program):
+    title, n, rules, wishes = program
+    pool, rows = tables(rules)
+    found = [sum(1 << (n - a) for a in m) for m in subsets(n) if stable(m, rules)]
+    array = lambda xs, t: '[%s]' % ', '.join(['%d%s' % (xs[0], t)] + [str(x) for x in xs[1:]]) if xs else '[0%s; 0]' % t
+    return 'pub fn %s() {\n    say::say(b"program %s\\n");\n    let pool = %s;\n    let rows = %s;\n    let wished = %s;\n    let models = %s;\n    run::run(&pool, &rows, %d, %d, &wished, %d, &models);\n}\n' % (
+        name, title, array(pool, 'i32'), array(rows, 'u16'), array(wishes, 'i32'), array(found, 'u32'), len(rules), n, len(wishes))
+
+if sys.argv[1:] == ['--weighted']:
+    print('// Order 2: programs with weighted bodies, as `programs` has the others. Written by tests/traces.py.\nuse crate::run;\nuse crate::say;\n')
+    print('\n'.join(function(*x) for x in zip(NAMES, filter(is_weighted, PROGRAMS))), end='')
+    sys.exit()
 
 out = []
 for p in PROGRAMS: run(*p, out)

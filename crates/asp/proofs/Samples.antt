@@ -1,4 +1,4 @@
--- The starred samples of document 01, "Sample programs", that speak of stable models and costs, and two of order 1: one table, proved as a whole.
+-- The starred samples of document 01, "Sample programs", that speak of stable models and costs, two of order 1 and five of order 2: one table, proved as a whole.
 -- Each program has exactly the stable models listed, among all sets of atoms, and each of them costs what is listed. Assumes nothing.
 use mathlib.Core.Path.{_≡_, refl, subst}
 use mathlib.Core.Bool.{Bool, true, false}
@@ -9,8 +9,8 @@ use lib.Dec.{T}
 use lib.Signed.{ltZ}
 use lib.IntN.{ℤ, pos, negsuc}
 use Rattle.asp.specs.Sets.{Set, In, same, iterate}
-use Rattle.asp.specs.Program.{Literal, Body, normal, Head, constraint, plain, choice, Rule, Entry, Program, All, RuleIn, atoms, highest}
-use Rattle.asp.specs.Stable.{Stable, listed, models, allHold, member, adds, anyViolated, subsets, keep}
+use Rattle.asp.specs.Program.{Literal, Weighed, Body, normal, weighted, Head, constraint, plain, choice, Rule, Entry, Program, All, RuleIn, atoms, highest}
+use Rattle.asp.specs.Stable.{Stable, listed, models, allHold, counts, member, adds, anyViolated, subsets, keep}
 use Rattle.asp.specs.Cost.{level, total, totalℤ, W, costs, starts, cheaper}
 use Rattle.asp.proofs.Models.{OneOf, models-all, models-only}
 
@@ -52,6 +52,21 @@ rewarded = record {
   symbols = [];
 }
 
+-- order 2: a pair of literal and weight, and a rule with such a body
+abbrev pair : Literal → ℕ → Weighed
+pair l w = record { literal = l; weight = w }
+
+abbrev weighing : Head → ℕ → List Weighed → Rule
+weighing h b ps = record { head = h; body = weighted b ps }
+
+abbrev capacity : Program
+capacity = record {
+  rules = rule (choice (1 ∷ 2 ∷ 3 ∷ [])) [] ∷ weighing constraint 5 (pair (pos 1) 2 ∷ pair (pos 2) 3 ∷ pair (pos 3) 4 ∷ []) ∷ [];
+  priorities = pos 0 ∷ [];
+  entries = entry (pos 0) (negsuc 0) (pos 2) ∷ entry (pos 0) (negsuc 1) (pos 3) ∷ entry (pos 0) (negsuc 2) (pos 4) ∷ [];
+  symbols = [];
+}
+
 abbrev pub table : List Sample
 table =
     -- no statement
@@ -89,6 +104,20 @@ table =
     }
     -- order 1: the fact 1, at -4 above; below it at -2, and its negation at -7
     ∷ record { program = rewarded; models = (1 ∷ []) ∷ []; costs = (negsuc 3 ∷ negsuc 1 ∷ []) ∷ [] }
+    -- order 2: choice {1, 2, 3}, never 5 or more of the weights 2, 3, 4; each atom that stays out costs its weight
+    ∷ record {
+      program = capacity;
+      models = [] ∷ (1 ∷ []) ∷ (2 ∷ []) ∷ (3 ∷ []) ∷ [];
+      costs = (pos 9 ∷ []) ∷ (pos 7 ∷ []) ∷ (pos 6 ∷ []) ∷ (pos 5 ∷ []) ∷ [];
+    }
+    -- order 2: 1 if not 2 counted twice reaches 2
+    ∷ sample (weighing (plain 1) 2 (pair (negsuc 1) 1 ∷ pair (negsuc 1) 1 ∷ []) ∷ []) ((1 ∷ []) ∷ [])
+    -- order 2: 1 if 1 reaches 1
+    ∷ sample (weighing (plain 1) 1 (pair (pos 1) 1 ∷ []) ∷ []) ([] ∷ [])
+    -- order 2: 1 if not 1 reaches 1
+    ∷ sample (weighing (plain 1) 1 (pair (negsuc 0) 1 ∷ []) ∷ []) []
+    -- order 2: a choice with a weighted body; the bound 0 always holds
+    ∷ sample (weighing (choice (1 ∷ 2 ∷ [])) 3 (pair (pos 3) 2 ∷ pair (negsuc 3) 1 ∷ []) ∷ weighing (plain 3) 0 [] ∷ []) ((3 ∷ []) ∷ (3 ∷ 1 ∷ []) ∷ (3 ∷ 2 ∷ []) ∷ (3 ∷ 2 ∷ 1 ∷ []) ∷ [])
     ∷ []
 
 -- ---- what the table says
@@ -116,8 +145,8 @@ all-right [] c = tt
 all-right (s ∷ ss) c = (right s (c .0), all-right ss (c .1))
 
 computed : All Computed table
-unfolding highest same iterate allHold member adds anyViolated subsets keep level totalℤ
-computed = (record { heads = tt; found = refl; priced = refl }, (record { heads = omega arith; found = refl; priced = refl }, (record { heads = omega arith; found = refl; priced = refl }, (record { heads = omega arith; found = refl; priced = refl }, (record { heads = omega arith; found = refl; priced = refl }, (record { heads = omega arith; found = refl; priced = refl }, (record { heads = omega arith; found = refl; priced = refl }, (record { heads = omega arith; found = refl; priced = refl }, (record { heads = omega arith; found = refl; priced = refl }, (record { heads = omega arith; found = refl; priced = refl }, (record { heads = omega arith; found = refl; priced = refl }, tt)))))))))))
+unfolding highest same iterate allHold counts member adds anyViolated subsets keep level totalℤ
+computed = (record { heads = tt; found = refl; priced = refl }, (record { heads = omega arith; found = refl; priced = refl }, (record { heads = omega arith; found = refl; priced = refl }, (record { heads = omega arith; found = refl; priced = refl }, (record { heads = omega arith; found = refl; priced = refl }, (record { heads = omega arith; found = refl; priced = refl }, (record { heads = omega arith; found = refl; priced = refl }, (record { heads = omega arith; found = refl; priced = refl }, (record { heads = omega arith; found = refl; priced = refl }, (record { heads = omega arith; found = refl; priced = refl }, (record { heads = omega arith; found = refl; priced = refl }, (record { heads = omega arith; found = refl; priced = refl }, (record { heads = omega arith; found = refl; priced = refl }, (record { heads = omega arith; found = refl; priced = refl }, (record { heads = omega arith; found = refl; priced = refl }, (record { heads = omega arith; found = refl; priced = refl }, tt))))))))))))))))
 
 pub table-right : All Right table
 table-right = all-right table computed

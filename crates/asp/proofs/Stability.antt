@@ -3,14 +3,14 @@ use mathlib.Core.Path.{_≡_, refl, sym, ap, _∙_}
 use mathlib.Core.Bool.{Bool, true, false, not, _&&_, _||_, Bool·beq}
 use mathlib.Core.List.{List, [], _∷_}
 use mathlib.Core.Logic.{_⊎_, inl, inr, ⊎-elim}
-use Prim.Native.Nat.{ℕ, zero, suc, _+_, _≤_, _<_}
+use Prim.Native.Nat.{ℕ, zero, suc, _+_, _≤_, _<_, zero-le}
 use native.Mathlib.Omega.{arith}
-use lib.Dec.{T, eqb, eqb→eq}
+use lib.Dec.{T, eqb, eqb→eq, leb, leb→le, le→leb}
 use lib.IntN.{ℤ, pos, negsuc}
 use mir.Facts.{and-yes, yes-and, or-yes}
-use Rattle.asp.specs.Sets.{Set, Sub, In, Only, same, iterate}
-use Rattle.asp.specs.Program.{Literal, Body, normal, Head, constraint, plain, choice, Rule, All, HeadIn, RuleIn}
-use Rattle.asp.specs.Stable.{holdsIn, allHold, bodyHolds, member, headAdds, ruleAdds, adds, anyViolated, Closed, Stable, closure, isStable}
+use Rattle.asp.specs.Sets.{Set, Sub, In, Only, same, iterate, pick}
+use Rattle.asp.specs.Program.{Literal, Weighed, Body, normal, weighted, Head, constraint, plain, choice, Rule, All, HeadIn, RuleIn}
+use Rattle.asp.specs.Stable.{holdsIn, allHold, counts, bodyHolds, member, headAdds, ruleAdds, adds, anyViolated, Closed, Stable, closure, isStable}
 use Rattle.asp.proofs.Closure.{Upto, upto-sub, sub-upto, upto-suc, sub-trans, inside, at-rest, iterate-only}
 
 pub yes-or-left : (x y : Bool) → T x → T (x || y)
@@ -34,8 +34,21 @@ literals-mono {X} {Y} M h (l ∷ ls) t =
     let s = and-yes (holdsIn M X l) (allHold M X ls) t in
     yes-and (holdsIn M Y l) (allHold M Y ls) (literal-mono M h l (s .0)) (literals-mono M h ls (s .1))
 
+-- order 2: so does what a weighted body counts
+pick-mono : (x y : Bool) (w : ℕ) → (T x → T y) → pick x w 0 ≤ pick y w 0
+pick-mono true true w f = omega arith
+pick-mono true false w f = absurd (f tt)
+pick-mono false y w f = zero-le
+
+pub counts-mono : {X Y : Set} → (M : Set) → Sub X Y → (ps : List Weighed) → counts M X ps ≤ counts M Y ps
+unfolding counts
+counts-mono M h [] = omega arith
+counts-mono {X} {Y} M h (p ∷ ps) =
+    omega (arith, pick-mono (holdsIn M X (p .literal)) (holdsIn M Y (p .literal)) (p .weight) (literal-mono M h (p .literal)), counts-mono M h ps)
+
 pub body-mono : {X Y : Set} → (M : Set) → Sub X Y → (b : Body) → T (bodyHolds M X b) → T (bodyHolds M Y b)
 body-mono M h (normal ls) t = literals-mono M h ls t
+body-mono {X} {Y} M h (weighted b ps) t = le→leb b (counts M Y ps) (omega (arith, leb→le b (counts M X ps) t, counts-mono M h ps))
 
 pub rule-mono : {X Y : Set} → (M : Set) → Sub X Y → (r : Rule) (a : ℕ) → T (ruleAdds M r X a) → T (ruleAdds M r Y a)
 rule-mono {X} {Y} M h r a t =

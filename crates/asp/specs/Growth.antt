@@ -4,8 +4,8 @@ use mathlib.Core.Bool.{Bool, true, false}
 use mathlib.Core.List.{List}
 use Prim.Native.Nat.{ℕ, _+_, _*_, _≤_, _<_}
 use lib.Dec.{T}
-use lib.IntN.{ℤ}
-use lib.ListN.{length}
+use lib.IntN.{ℤ, pos, natAbs}
+use lib.ListN.{length, getD}
 use Rattle.asp.specs.Sets.{Set, Sub, same, setOf, pick}
 use Rattle.asp.specs.Program.{Rule, All, RuleIn}
 use Rattle.asp.specs.Tables.{RowIn, rowAt, ruleAt}
@@ -32,6 +32,12 @@ Chosen M hs X = All (λ h. ChosenAtom M h X) hs
 -- X has what the rule adds to it
 abbrev pub KeptBy : Set → Rule → Set → Type 0
 KeptBy M r X = Sub (ruleAdds M r X) X
+
+-- the k pairs from i on, with their weights `gap` places further on, are in the pool; their atoms are up to 1,024
+pub record PairsFormed (pool : List ℤ) (gap i k : ℕ) : Type 0 where
+  pub few : k < 65536
+  pub inside : i + k + gap ≤ length pool
+  pub small : (j : ℕ) → i ≤ j → j < i + k → natAbs (getD pool j (pos 0)) ≤ 1024
 
 -- one rule, or each, is well formed; its atoms are 1 to 1,024
 pub record RuleFormed (pool : List ℤ) (rows : List ℕ) (r : ℕ) : Type 0 where

@@ -10,9 +10,15 @@ use Rattle.asp.specs.Sets.{In}
 abbrev pub Literal : Type 0
 Literal = ℤ
 
--- a body: literals that all have to hold
+-- order 2: "k pairs of literal and weight", in a body
+pub record Weighed : Type 0 where
+  pub literal : Literal
+  pub weight : ℕ
+
+-- a body: literals that all have to hold; or, order 2, a bound that the weights of pairs have to reach
 pub data Body : Type 0 where
   normal : List Literal → Body
+  weighted : ℕ → List Weighed → Body
 
 -- a head: no atom, one atom, or atoms to choose from
 pub data Head : Type 0 where
@@ -50,6 +56,7 @@ highest f (x ∷ xs) = max (f x) (highest f xs)
 
 abbrev pub bodyAtoms : Body → ℕ
 bodyAtoms (normal ls) = highest natAbs ls
+bodyAtoms (weighted b ps) = highest (λ (p : Weighed). natAbs (p .literal)) ps
 
 abbrev pub headAtoms : Head → ℕ
 headAtoms constraint = 0
@@ -86,6 +93,7 @@ LiteralIn n l = In n (natAbs l)
 
 abbrev pub BodyIn : ℕ → Body → Type 0
 BodyIn n (normal ls) = All (LiteralIn n) ls
+BodyIn n (weighted b ps) = All (λ (p : Weighed). LiteralIn n (p .literal)) ps
 
 abbrev pub HeadIn : ℕ → Head → Type 0
 HeadIn n constraint = Unit {0}

@@ -2,11 +2,11 @@
 use mathlib.Core.Path.{_≡_}
 use mathlib.Core.Bool.{Bool, true, false, not, _&&_, _||_, cond}
 use mathlib.Core.List.{List, [], _∷_, _++_, map}
-use Prim.Native.Nat.{ℕ, zero, suc}
-use lib.Dec.{T, eqb}
+use Prim.Native.Nat.{ℕ, zero, suc, _+_}
+use lib.Dec.{T, eqb, leb}
 use lib.IntN.{ℤ, pos, negsuc}
-use Rattle.asp.specs.Sets.{Set, Sub, In, Only, same, iterate}
-use Rattle.asp.specs.Program.{Literal, Body, normal, Head, constraint, plain, choice, Rule, Symbol}
+use Rattle.asp.specs.Sets.{Set, Sub, In, Only, same, iterate, pick}
+use Rattle.asp.specs.Program.{Literal, Weighed, Body, normal, weighted, Head, constraint, plain, choice, Rule, Symbol}
 
 -- ---- when a literal, a body, a condition holds
 
@@ -19,9 +19,18 @@ unfoldable pub allHold : Set → Set → List Literal → Bool
 allHold M X [] = true
 allHold M X (l ∷ ls) = holdsIn M X l && allHold M X ls
 
--- "a rule whose negated atoms are all outside M, and whose positive atoms are all in the set" X
+-- order 2: "the body counts, pair by pair, the weights of positive atoms in the growing set" X "and of negated atoms outside M"
+abbrev pub pairCounts : Set → Set → Weighed → ℕ
+pairCounts M X p = pick (holdsIn M X (p .literal)) (p .weight) 0
+
+unfoldable pub counts : Set → Set → List Weighed → ℕ
+counts M X [] = 0
+counts M X (p ∷ ps) = pairCounts M X p + counts M X ps
+
+-- "a rule whose negated atoms are all outside M, and whose positive atoms are all in the set" X; order 2: ".. and holds at bound or more"
 abbrev pub bodyHolds : Set → Set → Body → Bool
 bodyHolds M X (normal ls) = allHold M X ls
+bodyHolds M X (weighted b ps) = leb b (counts M X ps)
 
 -- a literal holds in a set
 abbrev pub holds : Set → Literal → Bool

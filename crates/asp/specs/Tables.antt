@@ -1,13 +1,14 @@
 -- From tables of numbers to programs: what the code's tables mean. Assumes nothing: these are definitions.
 use mathlib.Core.Path.{_≡_}
-use mathlib.Core.Bool.{Bool, true, false}
+use mathlib.Core.Bool.{Bool, true, false, not, _||_}
 use mathlib.Core.List.{List, [], _∷_}
 use Prim.Native.Nat.{ℕ, zero, suc, _+_, _*_, _≤_, _<_}
-use lib.Dec.{eqb}
+use lib.Dec.{eqb, leb}
 use lib.IntN.{ℤ, pos, negsuc, natAbs}
 use lib.ListN.{length, getD}
 use Rattle.asp.specs.Sets.{pick}
-use Rattle.asp.specs.Program.{Literal, Body, normal, Head, constraint, plain, choice, Rule, Entry, Symbol, Program, All, RuleIn}
+use Rattle.asp.specs.Literal.{oneSigned}
+use Rattle.asp.specs.Program.{Literal, Weighed, Body, normal, weighted, Head, constraint, plain, choice, Rule, Entry, Symbol, Program, All, RuleIn}
 
 -- f at the k places from i on
 unfoldable pub span : {A : Type 0} → (ℕ → A) → ℕ → ℕ → List A
@@ -37,17 +38,38 @@ abbrev pub rowAt : List ℕ → ℕ → Row
 rowAt t r = record { a = getD t (r * 4) 0; b = getD t (r * 4 + 1) 0; c = getD t (r * 4 + 2) 0; d = getD t (r * 4 + 3) 0 }
 
 -- ---- rules: a pool of literals, in which each rule has its head atoms and then its body; and a row for each rule:
--- a: 1 for a choice, 0 for a plain head; b: its first place in the pool; c: how many head atoms; d: how many body literals
+-- a: its kind; b: its first place in the pool; c: how many head atoms; d: how many body literals.
+-- Order 2: after the literals of a weighted body stand its bound and then the weight of each literal.
+-- Kind 0 is a plain head, 1 a choice; 2 and 3 are these with a weighted body, 4 and 5 with one in which some atom stands with both signs.
+
+unfoldable pub isChoice : ℕ → Bool
+isChoice k = eqb k 1 || (eqb k 3 || eqb k 5)
+
+unfoldable pub isWeighted : ℕ → Bool
+isWeighted k = leb 2 k
+
+unfoldable pub isMixed : ℕ → Bool
+isMixed k = leb 4 k
 
 abbrev pub plainHead : List ℕ → Head
 plainHead [] = constraint
 plainHead (h ∷ hs) = plain h
 
 abbrev pub headAt : List ℤ → Row → Head
-headAt pool r = pick (eqb (r .a) 1) (choice (atomsAt pool (r .b) (r .c))) (plainHead (atomsAt pool (r .b) (r .c)))
+headAt pool r = pick (isChoice (r .a)) (choice (atomsAt pool (r .b) (r .c))) (plainHead (atomsAt pool (r .b) (r .c)))
+
+-- the pair at place k, whose weight stands `gap` places further on
+abbrev pub pairAt : List ℤ → ℕ → ℕ → Weighed
+pairAt pool gap k = record { literal = getD pool k (pos 0); weight = natAbs (getD pool (k + gap) (pos 0)) }
+
+abbrev pub pairsAt : List ℤ → ℕ → ℕ → ℕ → List Weighed
+pairsAt pool gap i k = span (pairAt pool gap) i k
+
+abbrev pub boundAt : List ℤ → Row → ℕ
+boundAt pool r = natAbs (getD pool (r .b + r .c + r .d) (pos 0))
 
 abbrev pub bodyAt : List ℤ → Row → Body
-bodyAt pool r = normal (literalsAt pool (r .b + r .c) (r .d))
+bodyAt pool r = pick (isWeighted (r .a)) (weighted (boundAt pool r) (pairsAt pool (r .d + 1) (r .b + r .c) (r .d))) (normal (literalsAt pool (r .b + r .c) (r .d)))
 
 abbrev pub ruleAt : List ℤ → Row → Rule
 ruleAt pool r = record { head = headAt pool r; body = bodyAt pool r }
@@ -56,10 +78,12 @@ ruleAt pool r = record { head = headAt pool r; body = bodyAt pool r }
 abbrev pub rulesOf : List ℤ → List ℕ → ℕ → List Rule
 rulesOf pool rows count = span (λ (r : ℕ). ruleAt pool (rowAt rows r)) 0 count
 
--- a row's places are in the pool, and a plain head has one atom at most
+-- a row's places are in the pool, a plain head has one atom at most, and the kind says truly whether each atom of a weighted body has one sign
 pub record RowIn (pool : List ℤ) (r : Row) : Type 0 where
   pub inside : r .b + r .c + r .d ≤ length pool
-  pub single : (r .a ≡ 1 → ⊥) → r .c ≤ 1
+  pub single : isChoice (r .a) ≡ false → r .c ≤ 1
+  pub weighed : isWeighted (r .a) ≡ true → r .b + r .c + r .d + 1 + r .d ≤ length pool
+  pub signed : isWeighted (r .a) ≡ true → isMixed (r .a) ≡ not (oneSigned (literalsAt pool (r .b + r .c) (r .d)))
 
 -- well-formed tables of rules over the atoms 1 to n
 pub record Formed (n : ℕ) (pool : List ℤ) (rows : List ℕ) (count : ℕ) : Type 0 where

@@ -78,15 +78,14 @@ pub fn add_rule<'a>(
     requires { ⌜ RuleFormed (now pool) (now rows) r × (1024 < length (now m)) × (length (now x) ≡ 1025) ⌝ }
     ensures { λ b. ⌜ Grown (KeptBy (setOf (now (m .entry))) (ruleAt (now (pool .entry)) (rowAt (now (rows .entry)) r))) (now (x .entry)) (now (x .exit)) b ⌝ }
 {
+    if !table::body_holds(pool, rows, r, m, x) {
+        return false;
+    }
     let at = r * 4;
     let kind = table::number_at(rows, at);
     let first = table::number_at(rows, at + 1);
     let heads = table::number_at(rows, at + 2);
-    let body = table::number_at(rows, at + 3);
-    if !table::all_hold(pool, first + heads, body, m, x) {
-        return false;
-    }
-    if kind == 1 {
+    if table::is_choice(kind) {
         return add_choice(pool, first, heads, m, x);
     }
     if heads == 0 {
@@ -141,15 +140,13 @@ fn is_violated<'a>(pool: &'a [i32], rows: &'a [u16], r: usize, m: &'a [u8]) -> b
     ensures { λ b. ⌜ b ≡ constraintFails (setOf (now (m .entry))) (ruleAt (now (pool .entry)) (rowAt (now (rows .entry)) r)) ⌝ }
 {
     let at = r * 4;
-    let choice = table::number_at(rows, at);
-    let first = table::number_at(rows, at + 1);
+    let kind = table::number_at(rows, at);
     let heads = table::number_at(rows, at + 2);
-    let body = table::number_at(rows, at + 3);
-    if choice == 1 {
+    if table::is_choice(kind) {
         return false;
     }
     if heads == 0 {
-        return table::all_hold(pool, first + heads, body, m, m);
+        return table::body_holds(pool, rows, r, m, m);
     }
     false
 }

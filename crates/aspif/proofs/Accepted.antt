@@ -1,99 +1,19 @@
--- Every program that a text is accepted with has atoms from 1 to 1,024, weights from -1,000,000 to 1,000,000 and its priorities in order, and fits its tables. Assumes nothing.
+-- Every program that a text is accepted with has atoms from 1 to 1,024, weights and bounds in their ranges and its priorities in order, and fits its tables. Assumes nothing.
 use mathlib.Core.Path.{_≡_, refl}
 use mathlib.Core.Bool.{Bool, true, false}
-use mathlib.Core.List.{List, [], _∷_, _++_, map}
-use Prim.Native.Nat.{ℕ, zero, suc, _+_, _≤_}
-use native.Mathlib.Omega.{arith}
-use lib.Dec.{leb, ltb, eqb}
-use lib.IntN.{ℤ, pos, natAbs}
-use lib.ListN.{length, drop}
-use borrow.Author.Tests.{leb-true, eqb-false}
+use mathlib.Core.List.{List, [], _∷_, map}
+use Prim.Native.Nat.{ℕ, _+_, _≤_}
+use lib.Dec.{ltb, eqb}
+use lib.IntN.{ℤ, natAbs}
+use lib.ListN.{length}
 use Rattle.asp.specs.Sets.{pick, In}
-use Rattle.asp.specs.Program.{choice, Entry, Symbol, Program, All, LiteralIn, HeadIn, RuleIn, ProgramIn}
+use Rattle.asp.specs.Program.{Weighed, Body, normal, weighted, choice, Rule, Entry, Symbol, Program, All, LiteralIn, BodyIn, HeadIn, RuleIn, ProgramIn}
 use Rattle.asp.specs.Tables.{named}
-use Rattle.aspif_lines.specs.Text.{within, Read, got, bad, bind, next, token, ranged, number, signedToken, signedUpTo, signed, field, natural, atom, literal, memberField, more, nil, ended, opening, bodyCount, headOf, ruleOf, ruleLine, pair, Minimise, minimiseLine, nameByte, symbolLine, Statement, rule, minimise, symbol, comment, final, ofKind, statement, Reading, add, fits, nothing, led, steppedLine, judgedLine, lines, sameBytes, header, emptyProgram, openedReading, headed, pieces, sum, textOf, Answer, accepted, refused, goes, last}
-use Rattle.aspif.specs.Store.{Descending}
+use Rattle.asp.proofs.Spans.{all-map}
+use Rattle.aspif_lines.specs.Text.{Read, got, bad, bind, number, signed, field, natural, literal, memberField, more, ended, opening, bodyField, headOf, ruleOf, ruleLine, pair, Minimise, minimiseLine, nameByte, symbolLine, Statement, rule, minimise, symbol, comment, final, ofKind, statement, Reading, add, fits, nothing, led, steppedLine, judgedLine, lines, sameBytes, header, emptyProgram, openedReading, headed, pieces, sum, textOf, Answer, accepted, refused, goes, last}
+use Rattle.aspif_lines.proofs.Readings.{Reads, Any, any, reads-bind, reads-pick, field-reads, Small, signed-reads, Member, literal-reads, member-reads, all-append, more-reads, ended-reads, WeighedIn, BodyRead, body-reads}
+use Rattle.aspif.specs.Store.{Descending, BodyWeighs}
 use Rattle.aspif.proofs.Levels.{descending-insert}
-use Rattle.aspif_lines.proofs.Tokens.{within-ends}
-
--- ---- what is read, if something is
-
-abbrev Reads : {A : Type 0} → (A → Type 0) → Read A → Type 0
-Reads P (got a l) = P a
-Reads P (bad c) = Unit {0}
-
-abbrev Any : {A : Type 0} → A → Type 0
-Any a = Unit {0}
-
-any : {A : Type 0} (x : Read A) → Reads Any x
-any (got a l) = tt
-any (bad c) = tt
-
-reads-bind : {A B : Type 0} (P : A → Type 0) (Q : B → Type 0) (x : Read A) (k : A → List ℕ → Read B) → Reads P x → ((a : A) (l : List ℕ) → P a → Reads Q (k a l)) → Reads Q (bind x k)
-reads-bind P Q (got a l) k p f = f a l p
-reads-bind P Q (bad c) k p f = tt
-
-reads-pick : {A : Type 0} (P : A → Type 0) (b : Bool) (x y : Read A) → (b ≡ true → Reads P x) → (b ≡ false → Reads P y) → Reads P (pick b x y)
-reads-pick P true x y f g = f refl
-reads-pick P false x y f g = g refl
-
-abbrev Range : ℕ → ℕ → ℕ → Type 0
-Range lo hi v = (lo ≤ v) × (v ≤ hi)
-
-number-reads : (lo hi : ℕ) (l : List ℕ) → Reads (Range lo hi) (number lo hi l)
-unfolding number
-number-reads lo hi l =
-    reads-bind Any (Range lo hi) (token l) (ranged lo hi) (any (token l))
-    (λ v r u. reads-pick (Range lo hi) (within lo hi v) (got v r) (bad 4) (within-ends lo hi v) (λ e. tt))
-
-field-reads : {A : Type 0} (P : A → Type 0) (f : List ℕ → Read A) (l : List ℕ) → ((r : List ℕ) → Reads P (f r)) → Reads P (field f l)
-field-reads P f l h = reads-pick P (eqb (next l) 32) (f (drop 1 l)) (bad 2) (λ e. h (drop 1 l)) (λ e. tt)
-
-natural-reads : (lo hi : ℕ) (l : List ℕ) → Reads (Range lo hi) (natural lo hi l)
-unfolding natural
-natural-reads lo hi l = field-reads (Range lo hi) (number lo hi) l (number-reads lo hi)
-
-abbrev Small : ℕ → ℤ → Type 0
-Small hi z = natAbs z ≤ hi
-
-signed-reads : (hi : ℕ) (l : List ℕ) → Reads (Small hi) (signed hi l)
-unfolding signed
-signed-reads hi l =
-    reads-bind Any (Small hi) (signedToken l) (signedUpTo hi) (any (signedToken l))
-    (λ z r u. reads-pick (Small hi) (leb (natAbs z) hi) (got z r) (bad 4) (leb-true (natAbs z) hi) (λ e. tt))
-
--- a head's atom is one, and a body's literal has one
-abbrev Member : Bool → ℤ → Type 0
-Member true z = In 1024 (named z)
-Member false z = LiteralIn 1024 z
-
-positive-abs : (n : ℕ) → eqb n 0 ≡ false → 1 ≤ n
-positive-abs zero e = absurd (eqb-false 0 0 e refl)
-positive-abs (suc n) e = omega arith
-
-literal-reads : (l : List ℕ) → Reads (LiteralIn 1024) (literal l)
-unfolding literal
-literal-reads l =
-    reads-bind (Small 1024) (LiteralIn 1024) (field (signed 1024) l) (λ z r. pick (eqb (natAbs z) 0) (bad 4) (got z r)) (field-reads (Small 1024) (signed 1024) l (signed-reads 1024))
-    (λ z r h. reads-pick (LiteralIn 1024) (eqb (natAbs z) 0) (bad 4) (got z r) (λ e. tt) (λ e. (positive-abs (natAbs z) e, h)))
-
-member-reads : (b : Bool) (l : List ℕ) → Reads (Member b) (memberField b l)
-unfolding atom
-member-reads true l = reads-bind (Range 1 1024) (Member true) (natural 1 1024 l) (λ a r. got (pos a) r) (natural-reads 1 1024 l) (λ a r h. h)
-member-reads false l = literal-reads l
-
-pub all-append : {A : Type 0} (P : A → Type 0) (xs ys : List A) → All P xs → All P ys → All P (xs ++ ys)
-all-append P [] ys f g = g
-all-append P (x ∷ xs) ys f g = (f .0, all-append P xs ys (f .1) g)
-
-more-reads : {A : Type 0} (P : A → Type 0) (f : List ℕ → Read A) (k : ℕ) (xs : List A) (l : List ℕ) → ((r : List ℕ) → Reads P (f r)) → All P xs → Reads (All P) (more f k xs l)
-unfolding more
-more-reads P f zero xs l h a = a
-more-reads P f (suc k) xs l h a =
-    reads-bind P (All P) (f l) (λ a r. more f k (xs ++ (a ∷ [])) r) (h l) (λ x r p. more-reads P f k (xs ++ (x ∷ [])) r h (all-append P xs (x ∷ []) a (p, tt)))
-
-ended-reads : {A : Type 0} (P : A → Type 0) (a : A) (l : List ℕ) → P a → Reads P (ended a l)
-ended-reads P a l p = reads-pick P (nil l) (got a []) (bad 2) (λ e. p) (λ e. tt)
 
 -- ---- statements
 
@@ -106,14 +26,25 @@ head-in true xs a = a
 head-in false [] a = tt
 head-in false (x ∷ xs) a = a .0
 
-rule-reads : (l : List ℕ) → Reads (RuleIn 1024) (ruleLine l)
+body-in : (b : Body) → BodyRead b → BodyIn 1024 b
+body-in (normal ls) h = h
+body-in (weighted b ps) h = all-map WeighedIn (λ (p : Weighed). LiteralIn 1024 (p .literal)) (λ p q. q .0) ps (h .1)
+
+body-weighs : (b : Body) → BodyRead b → BodyWeighs b
+body-weighs (normal ls) h = tt
+body-weighs (weighted b ps) h = (h .0, all-map WeighedIn (λ (p : Weighed). p .weight ≤ 1000000) (λ p q. q .1) ps (h .1))
+
+-- a rule of atoms, bound and weights in their ranges
+abbrev RuleRead : Rule → Type 0
+RuleRead r = RuleIn 1024 r × BodyWeighs (r .body)
+
+rule-reads : (l : List ℕ) → Reads RuleRead (ruleLine l)
 unfolding ruleLine
 rule-reads l =
-    reads-bind Any (RuleIn 1024) (opening l) _ (any (opening l)) (λ o l u.
-    reads-bind (All (Member true)) (RuleIn 1024) (more (memberField true) (o .count) [] l) _ (more-reads (Member true) (memberField true) (o .count) [] l (member-reads true) tt) (λ heads l h.
-    reads-bind Any (RuleIn 1024) (bodyCount l) _ (any (bodyCount l)) (λ k l u.
-    reads-bind (All (Member false)) (RuleIn 1024) (more (memberField false) k [] l) _ (more-reads (Member false) (memberField false) k [] l (member-reads false) tt) (λ body l b.
-    ended-reads (RuleIn 1024) (ruleOf (o .choice) heads body) l (head-in (o .choice) (map named heads) (all-named heads h), b)))))
+    reads-bind Any RuleRead (opening l) _ (any (opening l)) (λ o l u.
+    reads-bind (All (Member true)) RuleRead (more (memberField true) (o .count) [] l) _ (more-reads (Member true) (memberField true) (o .count) [] l (member-reads true) tt) (λ heads l h.
+    reads-bind BodyRead RuleRead (bodyField l) _ (body-reads l) (λ body l b.
+    ended-reads RuleRead (ruleOf (o .choice) heads body) l ((head-in (o .choice) (map named heads) (all-named heads h), body-in body b), body-weighs body b))))
 
 -- an entry of a literal and a weight in their ranges
 abbrev EntryIn : Entry → Type 0
@@ -149,7 +80,7 @@ symbol-reads l =
     ended-reads SymbolIn (record { name = name; condition = c }) l h))))
 
 abbrev StatementIn : Statement → Type 0
-StatementIn (rule r) = RuleIn 1024 r
+StatementIn (rule r) = RuleRead r
 StatementIn (minimise q es) = All EntryIn es
 StatementIn (symbol s) = SymbolIn s
 StatementIn comment = Unit {0}
@@ -159,7 +90,7 @@ kind-reads : (k : ℕ) (l : List ℕ) → Reads StatementIn (ofKind k l)
 unfolding ofKind
 kind-reads k l =
     reads-pick StatementIn (eqb k 0) (ended final l) _ (λ e. ended-reads StatementIn final l tt) (λ e.
-    reads-pick StatementIn (eqb k 1) (bind (ruleLine l) (λ r l. got (rule r) l)) _ (λ e. reads-bind (RuleIn 1024) StatementIn (ruleLine l) _ (rule-reads l) (λ r l h. h)) (λ e.
+    reads-pick StatementIn (eqb k 1) (bind (ruleLine l) (λ r l. got (rule r) l)) _ (λ e. reads-bind RuleRead StatementIn (ruleLine l) _ (rule-reads l) (λ r l h. h)) (λ e.
     reads-pick StatementIn (eqb k 2) (bind (minimiseLine l) (λ m l. got (minimise (m .priority) (m .entries)) l)) _ (λ e. reads-bind MinimiseIn StatementIn (minimiseLine l) _ (minimise-reads l) (λ m l h. h)) (λ e.
     reads-pick StatementIn (eqb k 4) (bind (symbolLine l) (λ s l. got (symbol s) l)) _ (λ e. reads-bind SymbolIn StatementIn (symbolLine l) _ (symbol-reads l) (λ s l h. h)) (λ e.
     reads-pick StatementIn (eqb k 10) (got comment []) (bad 3) (λ e. tt) (λ e. tt)))))
@@ -173,6 +104,7 @@ statement-reads l = reads-bind Any StatementIn (number 0 10 l) ofKind (any (numb
 pub record Fine (p : Program) : Type 0 where
   pub atoms : ProgramIn 1024 p
   pub weights : All (λ (e : Entry). natAbs (e .weight) ≤ 1000000) (p .entries)
+  pub bodies : All (λ (r : Rule). BodyWeighs (r .body)) (p .rules)
   pub down : Descending (p .priorities)
 
 all-literals : (es : List Entry) → All EntryIn es → All (λ (e : Entry). LiteralIn 1024 (e .literal)) es
@@ -185,15 +117,21 @@ all-weights (e ∷ es) a = (a .0 .1, all-weights es (a .1))
 
 fine-add : (l : List ℕ) (st : Statement) (p : Reading) → StatementIn st → Fine (p .program) → Fine (add l st p .program)
 fine-add l (rule r) p s f =
-    record { atoms = record { rules = all-append (RuleIn 1024) (p .program .rules) (r ∷ []) (f .atoms .rules) (s, tt); entries = f .atoms .entries; symbols = f .atoms .symbols }; weights = f .weights; down = f .down }
+    record {
+      atoms = record { rules = all-append (RuleIn 1024) (p .program .rules) (r ∷ []) (f .atoms .rules) (s .0, tt); entries = f .atoms .entries; symbols = f .atoms .symbols };
+      weights = f .weights;
+      bodies = all-append (λ (r : Rule). BodyWeighs (r .body)) (p .program .rules) (r ∷ []) (f .bodies) (s .1, tt);
+      down = f .down;
+    }
 fine-add l (minimise q es) p s f =
     record {
       atoms = record { rules = f .atoms .rules; entries = all-append (λ (e : Entry). LiteralIn 1024 (e .literal)) (p .program .entries) es (f .atoms .entries) (all-literals es s); symbols = f .atoms .symbols };
       weights = all-append (λ (e : Entry). natAbs (e .weight) ≤ 1000000) (p .program .entries) es (f .weights) (all-weights es s);
+      bodies = f .bodies;
       down = descending-insert q (p .program .priorities) (f .down);
     }
 fine-add l (symbol s) p h f =
-    record { atoms = record { rules = f .atoms .rules; entries = f .atoms .entries; symbols = all-append SymbolIn (p .program .symbols) (s ∷ []) (f .atoms .symbols) (h, tt) }; weights = f .weights; down = f .down }
+    record { atoms = record { rules = f .atoms .rules; entries = f .atoms .entries; symbols = all-append SymbolIn (p .program .symbols) (s ∷ []) (f .atoms .symbols) (h, tt) }; weights = f .weights; bodies = f .bodies; down = f .down }
 fine-add l comment p s f = f
 fine-add l final p s f = f
 
@@ -256,6 +194,6 @@ fine-line l st u q e = fine-add l st q (rw e at (statement-reads l))
 
 pub accepted-good : (s : List ℕ) (p : Program) (t : List ℕ) → textOf s ≡ accepted p t → Good p
 accepted-good s p t e =
-    let none-fine : Fine emptyProgram = record { atoms = record { rules = tt; entries = tt; symbols = tt }; weights = tt; down = tt } in
+    let none-fine : Fine emptyProgram = record { atoms = record { rules = tt; entries = tt; symbols = tt }; weights = tt; bodies = tt; down = tt } in
     let h = accepted-keeps (λ (q : Reading). Fine (q .program)) fine-line s p t none-fine e in
     record { fine = h .0; fit = h .1 }

@@ -1,24 +1,23 @@
 -- Tables with one statement more. Assumes nothing.
-use mathlib.Core.Path.{_≡_, refl, sym, ap, _∙_}
-use mathlib.Core.Bool.{Bool, true, false}
-use mathlib.Core.List.{List, [], _∷_, _++_, map}
+use mathlib.Core.Path.{_≡_, refl, sym, ap, subst, _∙_}
+use mathlib.Core.Bool.{Bool, true, false, not}
+use mathlib.Core.List.{List, [], _∷_, _++_}
 use mathlib.Core.Logic.{⊎-elim}
-use Prim.Native.Nat.{ℕ, zero, suc, _+_, _<_, _≤_, max}
+use Prim.Native.Nat.{ℕ, _+_, _<_, _≤_, max}
 use native.Mathlib.Omega.{arith}
-use lib.Dec.{eqb}
 use lib.IntN.{ℤ, pos, natAbs}
 use lib.ListN.{length, getD}
-use borrow.Author.Tests.{ne-eqb}
-use Rattle.asp.specs.Program.{Entry, Symbol, highest}
-use Rattle.asp.specs.Tables.{span, literalsAt, entryAt, entriesOf, Row, rowAt, ruleAt, rulesOf, symbolAt, symbolsOf, named}
-use Rattle.aspif_lines.specs.Text.{got, ruleOf, ruleLine, minimiseLine, symbolLine, insert, sum, ruleSize, conditionSize, nameSize}
-use Rattle.aspif_lines.specs.Seen.{bytesAt, entriesAt, Kept, Positive, Pushed}
-use Rattle.aspif.specs.Store.{RulesSound, RuleAdded, ruleCounts, SymbolsSound, SymbolAdded, symbolCounts, MinimiseAdded, minimiseCounts}
+use Rattle.asp.specs.Sets.{pick}
+use Rattle.asp.specs.Literal.{oneSigned}
+use Rattle.asp.specs.Program.{choice, Entry, Symbol, highest}
+use Rattle.asp.specs.Tables.{span, literalsAt, atomsAt, isChoice, isWeighted, isMixed, plainHead, pairAt, entryAt, entriesOf, Row, rowAt, ruleAt, rulesOf, symbolAt, symbolsOf, named}
+use Rattle.aspif_lines.specs.Text.{got, ruleLine, minimiseLine, symbolLine, insert, sum, headSize, bodySize, ruleSize, conditionSize, nameSize}
+use Rattle.aspif_lines.specs.Seen.{bodyFrom, ruleRow, RuleGood, bytesAt, entriesAt, Kept, Pushed}
+use Rattle.aspif.specs.Store.{extraPlaces, rowEnd, RulesSound, RuleAdded, ruleCounts, SymbolsSound, SymbolAdded, symbolCounts, MinimiseAdded, minimiseCounts}
 use Rattle.aspif.specs.declared.table.Counts.{Counts}
 use Rattle.aspif_lines.proofs.Tokens.{lt-or-le}
-use Rattle.asp.proofs.Spans.{map-span}
-use Rattle.aspif_lines.proofs.Spans.{span-same, span-append, span-snoc, span-length, literalsAt-kept}
-use Rattle.aspif_lines.proofs.Heads.{head-atoms, head-size, length-map}
+use Rattle.aspif_lines.proofs.Spans.{highest-span, span-shift, span-same, span-append, span-snoc, span-length, literalsAt-kept}
+use Rattle.aspif_lines.proofs.Heads.{head-size}
 
 pub sum-snoc : {A : Type 0} (f : A → ℕ) (xs : List A) (x : A) → sum f (xs ++ (x ∷ [])) ≡ sum f xs + f x
 unfolding sum
@@ -31,24 +30,46 @@ span-grow f g n x h e = let z : 0 + n ≡ n = omega arith in rw (span-snoc g 0 n
 
 -- ---- rules
 
-abbrev reach : Row → ℕ
-reach r = r .b + r .c + r .d
+-- the body of a rule that lies in the first n places
+body-kept : (p q : List ℤ) (w : Bool) (n i k : ℕ) → Kept (pos 0) n p q → i + k + pick w (k + 1) 0 ≤ n → bodyFrom q w i k ≡ bodyFrom p w i k
+body-kept p q false n i k h l = rw (literalsAt-kept p q n i k h (omega arith))
+body-kept p q true n i k h l =
+    rw (
+      h .same (i + k) (omega arith),
+      span-shift (pairAt q (k + 1)) (pairAt p (k + 1)) i i k (λ j o. rw (h .same (i + j) (omega arith), h .same (i + j + (k + 1)) (omega arith))),
+    )
 
-abbrev ruleRow : Counts → ℕ → ℕ → ℕ → Row
-ruleRow n c m k = record { a = c; b = n .used; c = m; d = k }
+-- the rule that a row says takes the places of its literals
+row-size : (pool : List ℤ) (r : Row) → (isChoice (r .a) ≡ false → r .c ≤ 1) → ruleSize (ruleAt pool r) ≡ r .c + r .d
+row-size pool r one =
+    let hs : List ℕ = atomsAt pool (r .b) (r .c) in
+    let h = by-head (isChoice (r .a)) hs (λ e. omega (arith, one e, span-length (λ (j : ℕ). named (getD pool j (pos 0))) (r .b) (r .c))) in
+    omega (arith, h, by-body (isWeighted (r .a)), span-length (λ (j : ℕ). named (getD pool j (pos 0))) (r .b) (r .c))
+  where
+    by-head : (c : Bool) (xs : List ℕ) → (c ≡ false → length xs ≤ 1) → headSize (pick c (choice xs) (plainHead xs)) ≡ length xs
+    by-head true xs h = refl
+    by-head false xs h = head-size false xs h
 
-rule-at : (pool : List ℤ) (r : Row) (ch : Bool) → eqb (r .a) 1 ≡ ch → ruleAt pool r ≡ ruleOf ch (literalsAt pool (r .b) (r .c)) (literalsAt pool (r .b + r .c) (r .d))
-rule-at pool r true e = rw (e, map-span named (λ (j : ℕ). getD pool j (pos 0)) (r .b) (r .c))
-rule-at pool r false e = rw (e, map-span named (λ (j : ℕ). getD pool j (pos 0)) (r .b) (r .c))
+    by-body : (w : Bool) → bodySize (bodyFrom pool w (r .b + r .c) (r .d)) ≡ r .d
+    by-body true = span-length (pairAt pool (r .d + 1)) (r .b + r .c) (r .d)
+    by-body false = span-length (λ (j : ℕ). getD pool j (pos 0)) (r .b + r .c) (r .d)
 
-module _ (pool pool′ : List ℤ) (rules rules′ : List ℕ) (n : Counts) (c m k t : ℕ) (ch : Bool) (l : List ℕ)
-    (sound : RulesSound pool rules (n .rules) (n .used)) (kept : Kept (pos 0) (n .used) pool pool′) (pushed : Pushed (n .rules) (ruleRow n c m k) rules rules′)
-    (flagged : eqb c 1 ≡ ch) (one : ch ≡ false → m ≤ 1) where
-  abbrev heads : List ℤ
-  heads = literalsAt pool′ (n .used) m
+pub extra-few : (kind k : ℕ) → extraPlaces kind k ≤ k + 1
+extra-few kind k = go (isWeighted kind)
+  where
+    go : (w : Bool) → pick w (k + 1) 0 ≤ k + 1
+    go true = omega arith
+    go false = omega arith
 
-  abbrev body : List ℤ
-  body = literalsAt pool′ (n .used + m) k
+-- a row's kind says truly whether some atom stands with both signs
+abbrev SignedRow : List ℤ → Row → Type 0
+SignedRow pool r = isWeighted (r .a) ≡ true → isMixed (r .a) ≡ not (oneSigned (literalsAt pool (r .b + r .c) (r .d)))
+
+module _ (pool pool′ : List ℤ) (rules rules′ : List ℕ) (n : Counts) (kind m k t : ℕ) (l : List ℕ)
+    (sound : RulesSound pool rules (n .rules) (n .used) (n .filled)) (kept : Kept (pos 0) (n .filled) pool pool′) (pushed : Pushed (n .rules) (ruleRow kind (n .filled) m k) rules rules′)
+    (good : RuleGood pool′ (ruleRow kind (n .filled) m k) (n .atoms) t) where
+  abbrev row : Row
+  row = ruleRow kind (n .filled) m k
 
   rule-kept : (j : ℕ) → j < n .rules → ruleAt pool′ (rowAt rules j) ≡ ruleAt pool (rowAt rules j)
   rule-kept j q =
@@ -56,53 +77,47 @@ module _ (pool pool′ : List ℤ) (rules rules′ : List ℕ) (n : Counts) (c m
       let r : Row = rowAt rules j in
       rw (
         span-same (λ (i : ℕ). named (getD pool′ i (pos 0))) (λ (i : ℕ). named (getD pool i (pos 0))) (r .b) (r .c) (λ i w. ap named (kept .same i (omega arith))),
-        literalsAt-kept pool pool′ (n .used) (r .b + r .c) (r .d) kept (omega arith),
+        body-kept pool pool′ (isWeighted (r .a)) (n .filled) (r .b + r .c) (r .d) kept inside,
       )
 
-  rules-grow : rulesOf pool′ rules′ (n .rules + 1) ≡ rulesOf pool rules (n .rules) ++ (ruleOf ch heads body ∷ [])
+  rules-grow : rulesOf pool′ rules′ (n .rules + 1) ≡ rulesOf pool rules (n .rules) ++ (ruleAt pool′ row ∷ [])
   rules-grow =
-      span-grow (λ (j : ℕ). ruleAt pool (rowAt rules j)) (λ (j : ℕ). ruleAt pool′ (rowAt rules′ j)) (n .rules) (ruleOf ch heads body)
+      span-grow (λ (j : ℕ). ruleAt pool (rowAt rules j)) (λ (j : ℕ). ruleAt pool′ (rowAt rules′ j)) (n .rules) (ruleAt pool′ row)
       (λ j q. ap (ruleAt pool′) (pushed .kept j q) ∙ rule-kept j q)
-      (ap (ruleAt pool′) (pushed .here) ∙ rule-at pool′ (ruleRow n c m k) ch flagged)
+      (ap (ruleAt pool′) (pushed .here))
 
-  one-named : ch ≡ false → length (map named heads) ≤ 1
-  one-named e = omega (arith, one e, length-map named heads, span-length (λ (j : ℕ). getD pool′ j (pos 0)) (n .used) m)
+  -- what is so of the rows before and of the new one
+  each-row : (P : Row → Type 0) → ((j : ℕ) → j < n .rules → P (rowAt rules j)) → P row → (j : ℕ) → j < n .rules + 1 → P (rowAt rules′ j)
+  each-row P f h j q = ⊎-elim
+      (λ b. subst P (sym (pushed .kept j b)) (f j b))
+      (λ g. let e : j ≡ n .rules = omega arith in let d : rowAt rules′ j ≡ row = rw e (pushed .here) in subst P (sym d) h)
+      (lt-or-le j (n .rules))
 
-  rule-size : ruleSize (ruleOf ch heads body) ≡ m + k
-  rule-size =
-      omega (arith, head-size ch (map named heads) one-named, length-map named heads, span-length (λ (j : ℕ). getD pool′ j (pos 0)) (n .used) m, span-length (λ (j : ℕ). getD pool′ j (pos 0)) (n .used + m) k)
+  module _ (used filled : ℕ) (counted : used ≡ n .used + (m + k)) (taken : filled ≡ n .filled + (m + k + extraPlaces kind k)) where
+    rules-sound : RulesSound pool′ rules′ (n .rules + 1) used filled
+    rules-sound =
+        record {
+          inside = each-row (λ (r : Row). rowEnd r ≤ filled) (λ j b. omega (arith, sound .inside j b)) (omega arith);
+          single = each-row (λ (r : Row). isChoice (r .a) ≡ false → r .c ≤ 1) (sound .single) (good .single);
+          signed = each-row (SignedRow pool′)
+              (λ j b w. sound .signed j b w ∙ ap (λ (ls : List ℤ). not (oneSigned ls)) (sym (literalsAt-kept pool pool′ (n .filled) (rowAt rules j .b + rowAt rules j .c) (rowAt rules j .d) kept (omega (arith, sound .inside j b)))))
+              (good .signed);
+          size = rw (rules-grow, sum-snoc ruleSize (rulesOf pool rules (n .rules)) (ruleAt pool′ row)) (omega (arith, sound .size, row-size pool′ row (good .single)));
+          room = omega (arith, sound .room, extra-few kind k);
+        }
 
-  rules-sound : RulesSound pool′ rules′ (n .rules + 1) (n .used + m + k)
-  rules-sound =
-      record {
-        inside = λ j q. ⊎-elim
-            (λ b. omega (arith, sound .inside j b, ap reach (pushed .kept j b)))
-            (λ g. let e : j ≡ n .rules = omega arith in rw e (omega (arith, ap reach (pushed .here))))
-            (lt-or-le j (n .rules));
-        single = λ j q no. ⊎-elim
-            (λ b. let y = ap (λ (r : Row). r .a) (pushed .kept j b) in omega (arith, ap (λ (r : Row). r .c) (pushed .kept j b), sound .single j b (λ z. no (y ∙ z))))
-            (λ g.
-            let e : j ≡ n .rules = omega arith in
-            let d : rowAt rules′ j ≡ ruleRow n c m k = rw e (pushed .here) in
-            let y = ap (λ (r : Row). r .a) d in
-            omega (arith, ap (λ (r : Row). r .c) d, one (sym flagged ∙ ne-eqb c 1 (λ z. no (y ∙ z)))))
-            (lt-or-le j (n .rules));
-        size = rw (rules-grow, sum-snoc ruleSize (rulesOf pool rules (n .rules)) (ruleOf ch heads body)) (omega (arith, sound .size, rule-size));
-      }
-
-  pub rule-added : (end : ℕ) → got (ruleOf ch heads body) [] ≡ ruleLine l → t ≡ max (max (n .atoms) (highest natAbs heads)) (highest natAbs body) → Positive heads
-      → RuleAdded pool rules pool′ rules′ n end l (ruleCounts n (n .used + m + k) t end)
-  rule-added end e q p =
-      record {
-        read = ruleOf ch heads body;
-        line = sym e;
-        grown = rules-grow;
-        sound = rules-sound;
-        top = let a : highest natAbs heads ≡ _ = p .positive ∙ sym (head-atoms ch (map named heads) one-named) in omega (arith, a, q);
-        counts = refl;
-        longPool = kept .long;
-        longRules = pushed .long;
-      }
+    pub rule-added : (end : ℕ) → got (ruleAt pool′ row) [] ≡ ruleLine l → RuleAdded pool rules pool′ rules′ n end l (ruleCounts n used filled t end)
+    rule-added end e =
+        record {
+          read = ruleAt pool′ row;
+          line = sym e;
+          grown = rules-grow;
+          sound = rules-sound;
+          top = good .atoms;
+          counts = refl;
+          longPool = kept .long;
+          longRules = pushed .long;
+        }
 
 -- ---- symbols, whose names are in the text
 
@@ -153,11 +168,6 @@ module _ (text : List ℕ) (conditions conditions′ : List ℤ) (symbols symbol
       }
 
 -- ---- entries
-
-highest-span : {A B : Type 0} (f : A → ℕ) (g : ℕ → A) (f′ : B → ℕ) (g′ : ℕ → B) (i k : ℕ) → ((j : ℕ) → f (g j) ≡ f′ (g′ j)) → highest f (span g i k) ≡ highest f′ (span g′ i k)
-unfolding span highest
-highest-span f g f′ g′ i zero h = refl
-highest-span f g f′ g′ i (suc k) h = rw (h i, highest-span f g f′ g′ (i + 1) k h)
 
 module _ (ps ps′ ls ls′ ws ws′ levels levels′ : List ℤ) (n : Counts) (k d t : ℕ) (q : ℤ) (l : List ℕ)
     (f : Kept (pos 0) (n .entries) ps ps′) (g : Kept (pos 0) (n .entries) ls ls′) (h : Kept (pos 0) (n .entries) ws ws′) where

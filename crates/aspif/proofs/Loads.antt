@@ -6,7 +6,7 @@ use native.Mathlib.Omega.{arith}
 use lib.IntN.{natAbs}
 use lib.ListN.{getD}
 use Rattle.asp.specs.Sets.{In}
-use Rattle.asp.specs.Program.{Literal, Body, normal, Head, constraint, plain, choice, Rule, Entry, Symbol, Program, highest, bodyAtoms, headAtoms, ruleAtoms, atoms, All, LiteralIn, BodyIn, HeadIn, RuleIn, ProgramIn}
+use Rattle.asp.specs.Program.{Literal, Weighed, Body, normal, weighted, Head, constraint, plain, choice, Rule, Entry, Symbol, Program, highest, bodyAtoms, headAtoms, ruleAtoms, atoms, All, LiteralIn, BodyIn, HeadIn, RuleIn, ProgramIn}
 use Rattle.asp.specs.Tables.{span, rowAt, RowIn}
 use Rattle.aspif_lines.specs.Text.{textOf, accepted}
 use Rattle.aspif.specs.Store.{SoundLists, Within, seenVerdict, VerdictAfter, countsOf, answerFor, answerOf, listsOf, storedProgram, storedText, WellFormed, StoredAfter}
@@ -51,11 +51,16 @@ head-bound constraint p = omega arith
 head-bound (plain a) p = p .1
 head-bound (choice hs) p = highest-bound (λ (a : ℕ). a) (In 1024) (In 1024) 1024 hs (λ a q. q .1) p
 
+abbrev weighedAtoms : Weighed → ℕ
+weighedAtoms q = natAbs (q .literal)
+
 body-in : (n : ℕ) (b : Body) → BodyIn 1024 b → bodyAtoms b ≤ n → BodyIn n b
 body-in n (normal ls) p b = literals-in n ls p b
+body-in n (weighted w ps) p b = all-highest weighedAtoms (λ (q : Weighed). LiteralIn 1024 (q .literal)) (λ (q : Weighed). LiteralIn n (q .literal)) n ps (λ q i c. (i .0, c)) p b
 
 body-bound : (b : Body) → BodyIn 1024 b → bodyAtoms b ≤ 1024
 body-bound (normal ls) p = literals-bound ls p
+body-bound (weighted w ps) p = highest-bound weighedAtoms (λ (q : Weighed). LiteralIn 1024 (q .literal)) (λ (q : Weighed). LiteralIn 1024 (q .literal)) 1024 ps (λ q i. i .1) p
 
 rule-in : (n : ℕ) (r : Rule) → RuleIn 1024 r → ruleAtoms r ≤ n → RuleIn n r
 rule-in n r p b = (head-in n (r .head) (p .0) (omega arith), body-in n (r .body) (p .1) (omega arith))
@@ -99,7 +104,15 @@ module _ (p : Stored) (s : List ℕ) (sound : SoundLists (listsOf p) (p .counts)
   named = rw (sound .atoms) (program-in (storedProgram p) (good .fine .atoms))
 
   row-in : (j : ℕ) → j < p .counts .rules → RowIn (p .pool) (rowAt (p .rules) j)
-  row-in j l = record { inside = omega (arith, sound .rules .inside j l, within .used, sound .sized .pool); single = sound .rules .single j l }
+  row-in j l =
+      let room : p .counts .filled ≤ 34816 = omega (arith, sound .rules .room, within .used, within .rules) in
+      let end = sound .rules .inside j l in
+      record {
+        inside = omega (arith, end, room, sound .sized .pool);
+        single = sound .rules .single j l;
+        weighed = λ w. omega (arith, rw w at end, room, sound .sized .pool);
+        signed = sound .rules .signed j l;
+      }
 
   pub well-formed : WellFormed p
   well-formed =
@@ -112,6 +125,7 @@ module _ (p : Stored) (s : List ℕ) (sound : SoundLists (listsOf p) (p .counts)
         formed = record { few = omega (arith, atoms-bound (storedProgram p) (good .fine .atoms), sound .atoms); long = omega (arith, within .rules, sound .sized .rules); row = row-in; atoms = named .rules };
         named = named;
         weights = good .fine .weights;
+        bodies = good .fine .bodies;
         levels = good .fine .down;
         symbols = sound .symbols .inside;
       }

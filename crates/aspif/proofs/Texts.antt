@@ -58,7 +58,7 @@ module _ (t : Lists) (used : ℕ) where
   unfolding span sum highest
   none-sound z = record {
     sized = z;
-    rules = record { inside = λ j l. absurd (omega arith); single = λ j l. absurd (omega arith); size = refl };
+    rules = record { inside = λ j l. absurd (omega arith); single = λ j l. absurd (omega arith); signed = λ j l. absurd (omega arith); size = refl; room = omega arith };
     symbols = record { inside = λ j l. absurd (omega arith); size = refl; length = refl };
     levels = tt;
     atoms = refl;

@@ -1,20 +1,24 @@
 -- Every accepted text has well-formed tables that hold its program and its text: they are built from these two. Assumes nothing.
 use mathlib.Core.Path.{_≡_, refl, sym, ap, _∙_, subst}
+use mathlib.Core.Bool.{Bool, true, false, not}
 use mathlib.Core.List.{List, [], _∷_, _++_, map, append-assoc}
 use Prim.Native.Nat.{ℕ, suc, _+_, _-_, _*_, _≤_, _<_}
 use native.Mathlib.Omega.{arith}
 use lib.IntN.{ℤ, pos, natAbs}
 use lib.ListN.{length, getD, replicate, length-append, length-replicate}
 use lib.Seq.{getD-append-add}
-use Rattle.asp.specs.Program.{Body, normal, Head, constraint, plain, choice, Rule, Entry, Symbol, Program, atoms, All, RuleIn, ProgramIn}
-use Rattle.asp.specs.Tables.{span, literalsAt, named, atomsAt, Row, rowAt, headAt, ruleAt, RowIn, entryAt, entriesOf, symbolAt}
+use Rattle.asp.specs.Sets.{pick}
+use Rattle.asp.specs.Literal.{oneSigned}
+use Rattle.asp.specs.Program.{Weighed, Body, normal, weighted, Head, constraint, plain, choice, Rule, Entry, Symbol, Program, atoms, All, RuleIn, ProgramIn}
+use Rattle.asp.specs.Tables.{span, literalsAt, pairAt, pairsAt, named, atomsAt, Row, rowAt, headAt, ruleAt, RowIn, entryAt, entriesOf, symbolAt}
 use Rattle.asp.proofs.Spans.{span-at}
 use Rattle.aspif_lines.specs.Text.{sum, headSize, bodySize, ruleSize, conditionSize, nameSize, fits, textOf, accepted}
-use Rattle.aspif_lines.specs.Seen.{bytesAt}
+use Rattle.aspif_lines.specs.Seen.{bodyFrom, kindOf, bytesAt}
 use Rattle.asp.proofs.Spans.{map-span}
 use Rattle.aspif_lines.proofs.Spans.{span-shift}
 use Rattle.aspif_lines.proofs.Heads.{length-map}
-use Rattle.aspif.specs.Store.{Descending, Within, listsOf, Sized, storedProgram, storedText, WellFormed}
+use Rattle.aspif_lines.proofs.RowKinds.{kind-choice, kind-weighted, kind-mixed}
+use Rattle.aspif.specs.Store.{Descending, Within, listsOf, Sized, BodyWeighs, storedProgram, storedText, WellFormed}
 use Rattle.aspif.specs.declared.table.Counts.{Counts}
 use Rattle.aspif.specs.declared.text.Stored.{Stored}
 use Rattle.aspif.proofs.Onwards.{limits-within}
@@ -123,6 +127,17 @@ module _ {A : Type 0} (P : A → Type 0) (lay : A → List ℤ) (row : ℕ → (
       let r = rows-back at f (before ++ lay x) xs after (h .1) in
       rw (e, f before x (laid lay xs ++ after) (h .0)) (ap (λ (ys : List A). x ∷ ys) (rw (length-append before (lay x), d) at r))
 
+  -- what is so of the row of every item among others is so of all
+  rows-hold : (Q : List ℤ → Row → Type 0) → ((xs : List ℤ) (x : A) (zs : List ℤ) (p : P x) → Q (xs ++ (lay x ++ zs)) (row (length xs) x p))
+      → (before : List ℤ) (xs : List A) (after : List ℤ) (h : All P xs) → All (Q (before ++ (laid lay xs ++ after))) (rows (length before) xs h)
+  unfolding rows laid
+  rows-hold Q f before [] after h = tt
+  rows-hold Q f before (x ∷ xs) after h =
+      let e : before ++ ((lay x ++ laid lay xs) ++ after) ≡ before ++ (lay x ++ (laid lay xs ++ after)) = rw (append-assoc (lay x) (laid lay xs) after) in
+      let d : (before ++ lay x) ++ (laid lay xs ++ after) ≡ before ++ (lay x ++ (laid lay xs ++ after)) = append-assoc before (lay x) (laid lay xs ++ after) in
+      let r = rows-hold Q f (before ++ lay x) xs after (h .1) in
+      rw e (f before x (laid lay xs ++ after) (h .0), rw (length-append before (lay x), d) at r)
+
   -- the table of n numbers with these rows at its front
   module _ (n : ℕ) (xs : List A) (h : All P xs) where
     abbrev table : List ℕ
@@ -137,31 +152,46 @@ module _ {A : Type 0} (P : A → Type 0) (lay : A → List ℤ) (row : ℕ → (
     table-all : (Q : Row → Type 0) (e : ℕ) → ((i : ℕ) (x : A) (p : P x) → i + length (lay x) ≤ e → Q (row i x p)) → length (laid lay xs) ≤ e → (j : ℕ) → j < length xs → Q (rowAt table j)
     table-all Q e f l j b = span-at (rowAt table) Q 0 (length xs) (subst (All Q) (sym table-rows) (rows-all Q e f 0 xs h (omega arith))) j (omega arith) (omega arith)
 
+    table-hold : (Q : List ℤ → Row → Type 0) → ((ys : List ℤ) (x : A) (zs : List ℤ) (p : P x) → Q (ys ++ (lay x ++ zs)) (row (length ys) x p))
+        → (zs : List ℤ) (j : ℕ) → j < length xs → Q (laid lay xs ++ zs) (rowAt table j)
+    table-hold Q f zs j b = span-at (rowAt table) (Q (laid lay xs ++ zs)) 0 (length xs) (subst (All (Q (laid lay xs ++ zs))) (sym table-rows) (rows-hold Q f [] xs zs h)) j (omega arith) (omega arith)
+
     table-back : (at : List ℤ → Row → A) → ((ys : List ℤ) (x : A) (zs : List ℤ) (p : P x) → at (ys ++ (lay x ++ zs)) (row (length ys) x p) ≡ x)
         → (zs : List ℤ) → span (λ (j : ℕ). at (laid lay xs ++ zs) (rowAt table j)) 0 (length xs) ≡ xs
     table-back at f zs = sym (map-span (at (laid lay xs ++ zs)) (rowAt table) 0 (length xs)) ∙ ap (map (at (laid lay xs ++ zs))) table-rows ∙ rows-back at f [] xs zs h
 
--- ---- rules: the head's atoms, then the body
+-- ---- rules: the head's atoms, then the body's literals, then the bound and the weights of a weighted one
 
 abbrev headList : Head → List ℕ
 headList constraint = []
 headList (plain a) = a ∷ []
 headList (choice hs) = hs
 
--- 1 for a choice
-abbrev choiceMark : Head → ℕ
-choiceMark constraint = 0
-choiceMark (plain a) = 0
-choiceMark (choice hs) = 1
+abbrev chosen : Head → Bool
+chosen constraint = false
+chosen (plain a) = false
+chosen (choice hs) = true
+
+abbrev weighs : Body → Bool
+weighs (normal ls) = false
+weighs (weighted b ps) = true
 
 abbrev bodyList : Body → List ℤ
 bodyList (normal ls) = ls
+bodyList (weighted b ps) = map (λ (q : Weighed). q .literal) ps
+
+abbrev bodyTail : Body → List ℤ
+bodyTail (normal ls) = []
+bodyTail (weighted b ps) = pos b ∷ map (λ (q : Weighed). pos (q .weight)) ps
 
 abbrev ruleLaid : Rule → List ℤ
-ruleLaid r = map pos (headList (r .head)) ++ bodyList (r .body)
+ruleLaid r = map pos (headList (r .head)) ++ (bodyList (r .body) ++ bodyTail (r .body))
 
-abbrev ruleRow : ℕ → (r : Rule) → RuleIn 1024 r → Row
-ruleRow i r p = record { a = choiceMark (r .head); b = i; c = length (headList (r .head)); d = length (bodyList (r .body)) }
+abbrev rowKind : Rule → ℕ
+rowKind r = kindOf (chosen (r .head)) (weighs (r .body)) (not (oneSigned (bodyList (r .body))))
+
+abbrev rowOf : ℕ → (r : Rule) → RuleIn 1024 r → Row
+rowOf i r p = record { a = rowKind r; b = i; c = length (headList (r .head)); d = length (bodyList (r .body)) }
 
 head-length : (h : Head) → length (headList h) ≡ headSize h
 head-length constraint = refl
@@ -170,18 +200,32 @@ head-length (choice hs) = refl
 
 body-length : (b : Body) → length (bodyList b) ≡ bodySize b
 body-length (normal ls) = refl
+body-length (weighted b ps) = length-map (λ (q : Weighed). q .literal) ps
 
-laid-sizes : (r : Rule) → length (ruleLaid r) ≡ length (headList (r .head)) + length (bodyList (r .body))
-laid-sizes r = omega (arith, length-append (map pos (headList (r .head))) (bodyList (r .body)), length-map pos (headList (r .head)))
+tail-length : (b : Body) → length (bodyTail b) ≡ pick (weighs b) (length (bodyList b) + 1) 0
+tail-length (normal ls) = refl
+tail-length (weighted b ps) = omega (arith, length-map (λ (q : Weighed). pos (q .weight)) ps, length-map (λ (q : Weighed). q .literal) ps)
 
-rule-length : (r : Rule) → length (ruleLaid r) ≡ ruleSize r
-rule-length r = omega (arith, laid-sizes r, head-length (r .head), body-length (r .body))
+tail-few : (b : Body) → length (bodyTail b) ≤ length (bodyList b) + 1
+tail-few (normal ls) = omega arith
+tail-few (weighted b ps) = omega (arith, tail-length (weighted b ps))
+
+laid-sizes : (r : Rule) → length (ruleLaid r) ≡ length (headList (r .head)) + length (bodyList (r .body)) + length (bodyTail (r .body))
+laid-sizes r =
+    omega (arith, length-append (map pos (headList (r .head))) (bodyList (r .body) ++ bodyTail (r .body)), length-append (bodyList (r .body)) (bodyTail (r .body)), length-map pos (headList (r .head)))
+
+-- each rule takes no more than twice its places, and one
+rules-few : (rs : List Rule) → length (laid ruleLaid rs) ≤ sum ruleSize rs + sum ruleSize rs + length rs
+unfolding laid sum
+rules-few [] = omega arith
+rules-few (r ∷ rs) =
+    omega (arith, length-append (ruleLaid r) (laid ruleLaid rs), laid-sizes r, head-length (r .head), body-length (r .body), tail-few (r .body), rules-few rs)
 
 -- a plain head has one atom at most
-head-single : (h : Head) → (choiceMark h ≡ 1 → ⊥) → length (headList h) ≤ 1
+head-single : (h : Head) → chosen h ≡ false → length (headList h) ≤ 1
 head-single constraint n = omega arith
 head-single (plain a) n = omega arith
-head-single (choice hs) n = absurd (n refl)
+head-single (choice hs) n = let z : _≡_ {A = ℕ} 0 1 = cc in absurd (omega arith)
 
 named-pos : (hs : List ℕ) → map named (map pos hs) ≡ hs
 named-pos [] = refl
@@ -193,20 +237,93 @@ atoms-at xs hs zs =
     let ls : literalsAt (xs ++ (map pos hs ++ zs)) (length xs) (length hs) ≡ map pos hs = rw (length-map pos hs) at (list-at (pos 0) xs (map pos hs) zs) in
     sym (map-span named (λ (j : ℕ). getD (xs ++ (map pos hs ++ zs)) j (pos 0)) (length xs) (length hs)) ∙ ap (map named) ls ∙ named-pos hs
 
-head-back : (h : Head) (xs zs : List ℤ) (d : ℕ) → headAt (xs ++ (map pos (headList h) ++ zs)) (record { a = choiceMark h; b = length xs; c = length (headList h); d = d }) ≡ h
-head-back constraint xs zs d = rw (atoms-at xs [] zs)
-head-back (plain a) xs zs d = rw (atoms-at xs (a ∷ []) zs)
-head-back (choice hs) xs zs d = rw (atoms-at xs hs zs)
+head-back : (h : Head) (w m : Bool) (xs zs : List ℤ) (d : ℕ) → headAt (xs ++ (map pos (headList h) ++ zs)) (record { a = kindOf (chosen h) w m; b = length xs; c = length (headList h); d = d }) ≡ h
+head-back constraint w m xs zs d = rw (kind-choice false w m, atoms-at xs [] zs)
+head-back (plain a) w m xs zs d = rw (kind-choice false w m, atoms-at xs (a ∷ []) zs)
+head-back (choice hs) w m xs zs d = rw (kind-choice true w m, atoms-at xs hs zs)
 
-body-back : (b : Body) (xs hs zs : List ℤ) → normal (literalsAt (xs ++ (hs ++ (bodyList b ++ zs))) (length xs + length hs) (length (bodyList b))) ≡ b
-body-back (normal ls) xs hs zs = rw (← append-assoc xs hs (ls ++ zs), ← length-append xs hs, list-at (pos 0) (xs ++ hs) ls zs)
+-- a weighted body after the literals `before`
+module _ (before : List ℤ) (b : ℕ) (ps : List Weighed) (zs : List ℤ) where
+  abbrev lits : List ℤ
+  lits = map (λ (q : Weighed). q .literal) ps
 
-rule-back : (xs : List ℤ) (r : Rule) (zs : List ℤ) (p : RuleIn 1024 r) → ruleAt (xs ++ (ruleLaid r ++ zs)) (ruleRow (length xs) r p) ≡ r
-rule-back xs r zs p =
-    let hs : List ℤ = map pos (headList (r .head)) in
-    let ls : List ℤ = bodyList (r .body) in
-    let b = rw (length-map pos (headList (r .head))) at (body-back (r .body) xs hs zs) in
-    rw (append-assoc hs ls zs, head-back (r .head) xs (ls ++ zs) (length ls), b)
+  abbrev ws : List ℤ
+  ws = map (λ (q : Weighed). pos (q .weight)) ps
+
+  abbrev held : List ℤ
+  held = before ++ (lits ++ (pos b ∷ (ws ++ zs)))
+
+  -- beyond the literals
+  beyond : (j : ℕ) → getD held (length before + (length lits + j)) (pos 0) ≡ getD (pos b ∷ (ws ++ zs)) j (pos 0)
+  beyond j = getD-append-add before (lits ++ (pos b ∷ (ws ++ zs))) (length lits + j) (pos 0) ∙ getD-append-add lits (pos b ∷ (ws ++ zs)) j (pos 0)
+
+  bound-back : natAbs (getD held (length before + length lits) (pos 0)) ≡ b
+  bound-back = let e : length before + length lits ≡ length before + (length lits + 0) = omega arith in rw (e, beyond 0)
+
+  abbrev pairOf : List Weighed → ℕ → Weighed
+  pairOf qs j = record { literal = getD (map (λ (q : Weighed). q .literal) qs ++ (pos b ∷ (ws ++ zs))) j (pos 0); weight = natAbs (getD (map (λ (q : Weighed). pos (q .weight)) qs ++ zs) j (pos 0)) }
+
+  pair-there : (j : ℕ) → pairAt held (length lits + 1) (length before + j) ≡ pairOf ps (0 + j)
+  pair-there j =
+      let z : 0 + j ≡ j = omega arith in
+      let e : length before + j + (length lits + 1) ≡ length before + (length lits + suc j) = omega arith in
+      rw (z, getD-append-add before (lits ++ (pos b ∷ (ws ++ zs))) j (pos 0), e, beyond (suc j))
+
+  pairs-back : pairsAt held (length lits + 1) (length before) (length lits) ≡ ps
+  pairs-back =
+      span-shift (pairAt held (length lits + 1)) (pairOf ps) (length before) 0 (length lits) (λ j l. pair-there j)
+      ∙ ap (span (pairOf ps) 0) (length-map (λ (q : Weighed). q .literal) ps)
+      ∙ fronts pairOf (λ q qs. refl) (λ q qs j. refl) ps
+
+body-back : (b : Body) (before zs : List ℤ) → bodyFrom (before ++ (bodyList b ++ (bodyTail b ++ zs))) (weighs b) (length before) (length (bodyList b)) ≡ b
+body-back (normal ls) before zs = rw (list-at (pos 0) before ls zs)
+body-back (weighted b ps) before zs = rw (bound-back before b ps zs, pairs-back before b ps zs)
+
+-- a rule among others: its head after xs, its body after that
+module _ (xs : List ℤ) (r : Rule) (zs : List ℤ) (p : RuleIn 1024 r) where
+  abbrev among : List ℤ
+  among = xs ++ (ruleLaid r ++ zs)
+
+  abbrev hs : List ℤ
+  hs = map pos (headList (r .head))
+
+  abbrev after : List ℤ
+  after = bodyList (r .body) ++ (bodyTail (r .body) ++ zs)
+
+  by-head : among ≡ xs ++ (hs ++ after)
+  by-head = rw (append-assoc hs (bodyList (r .body) ++ bodyTail (r .body)) zs, append-assoc (bodyList (r .body)) (bodyTail (r .body)) zs)
+
+  by-body : among ≡ (xs ++ hs) ++ after
+  by-body = by-head ∙ sym (append-assoc xs hs after)
+
+  body-place : length (xs ++ hs) ≡ length xs + length (headList (r .head))
+  body-place = omega (arith, length-append xs hs, length-map pos (headList (r .head)))
+
+  body-there : bodyFrom among (weighs (r .body)) (length xs + length (headList (r .head))) (length (bodyList (r .body))) ≡ r .body
+  body-there = rw (by-body, ← body-place) (body-back (r .body) (xs ++ hs) zs)
+
+  literals-there : literalsAt among (length xs + length (headList (r .head))) (length (bodyList (r .body))) ≡ bodyList (r .body)
+  literals-there = rw (by-body, ← body-place) (list-at (pos 0) (xs ++ hs) (bodyList (r .body)) (bodyTail (r .body) ++ zs))
+
+  head-there : headAt among (rowOf (length xs) r p) ≡ r .head
+  head-there = rw by-head (head-back (r .head) (weighs (r .body)) (not (oneSigned (bodyList (r .body)))) xs after (length (bodyList (r .body))))
+
+  rule-back : ruleAt among (rowOf (length xs) r p) ≡ r
+  rule-back = rw (head-there, kind-weighted (chosen (r .head)) (weighs (r .body)) (not (oneSigned (bodyList (r .body)))), body-there)
+
+  row-formed : RowIn among (rowOf (length xs) r p)
+  row-formed =
+      let long = length-append xs (ruleLaid r ++ zs) in
+      let part = length-append (ruleLaid r) zs in
+      let m : Bool = not (oneSigned (bodyList (r .body))) in
+      record {
+        inside = omega (arith, long, part, laid-sizes r);
+        single = λ q. head-single (r .head) (sym (kind-choice (chosen (r .head)) (weighs (r .body)) m) ∙ q);
+        weighed = λ q. let w : weighs (r .body) ≡ true = sym (kind-weighted (chosen (r .head)) (weighs (r .body)) m) ∙ q in omega (arith, long, part, laid-sizes r, rw w at (tail-length (r .body)));
+        signed = λ q.
+            let w : weighs (r .body) ≡ true = sym (kind-weighted (chosen (r .head)) (weighs (r .body)) m) ∙ q in
+            kind-mixed (chosen (r .head)) (weighs (r .body)) m w ∙ ap (λ (ls : List ℤ). not (oneSigned ls)) (sym literals-there);
+      }
 
 -- ---- symbols: where the name lies in the text w, and the condition
 
@@ -240,6 +357,7 @@ module _ (P : Program) (w : List ℕ) (good : Good P) (short : length w ≤ 6553
       record {
         rules = length (P .rules);
         used = sum ruleSize (P .rules);
+        filled = length (laid ruleLaid (P .rules));
         entries = length (P .entries);
         levels = length (P .priorities);
         symbols = length (P .symbols);
@@ -253,8 +371,8 @@ module _ (P : Program) (w : List ℕ) (good : Good P) (short : length w ≤ 6553
   witness =
       record {
         text = padded 0 65537 w;
-        pool = padded (pos 0) 18432 (laid ruleLaid (P .rules));
-        rules = table (RuleIn 1024) ruleLaid ruleRow 8196 (P .rules) atoms-in;
+        pool = padded (pos 0) 37889 (laid ruleLaid (P .rules));
+        rules = table (RuleIn 1024) ruleLaid rowOf 8196 (P .rules) atoms-in;
         priorities = padded (pos 0) 1536 (map (λ (e : Entry). e .priority) (P .entries));
         literals = padded (pos 0) 1536 (map (λ (e : Entry). e .literal) (P .entries));
         weights = padded (pos 0) 1536 (map (λ (e : Entry). e .weight) (P .entries));
@@ -268,7 +386,7 @@ module _ (P : Program) (w : List ℕ) (good : Good P) (short : length w ≤ 6553
   witness-text = list-front 0 w _
 
   rules-is : storedProgram witness .rules ≡ P .rules
-  rules-is = table-back (RuleIn 1024) ruleLaid ruleRow 8196 (P .rules) atoms-in ruleAt rule-back _
+  rules-is = table-back (RuleIn 1024) ruleLaid rowOf 8196 (P .rules) atoms-in ruleAt rule-back _
 
   levels-is : storedProgram witness .priorities ≡ P .priorities
   levels-is = list-front (pos 0) (P .priorities) _
@@ -286,9 +404,6 @@ module _ (P : Program) (w : List ℕ) (good : Good P) (short : length w ≤ 6553
   unfolding fits
   within = limits-within counts (good .fit)
 
-  pool-used : length (laid ruleLaid (P .rules)) ≡ sum ruleSize (P .rules)
-  pool-used = laid-length ruleLaid ruleSize rule-length (P .rules)
-
   conditions-used : length (laid conditionLaid (P .symbols)) ≡ sum conditionSize (P .symbols)
   conditions-used = laid-length conditionLaid conditionSize (λ y. refl) (P .symbols)
 
@@ -299,8 +414,8 @@ module _ (P : Program) (w : List ℕ) (good : Good P) (short : length w ≤ 6553
   sized =
       record {
         text = padded-length 0 65537 w (omega arith);
-        pool = padded-length (pos 0) 18432 (laid ruleLaid (P .rules)) (omega (arith, pool-used, within .used));
-        rules = table-length (RuleIn 1024) ruleLaid ruleRow 8196 (P .rules) atoms-in (omega (arith, within .rules));
+        pool = padded-length (pos 0) 37889 (laid ruleLaid (P .rules)) (omega (arith, rules-few (P .rules), within .used, within .rules));
+        rules = table-length (RuleIn 1024) ruleLaid rowOf 8196 (P .rules) atoms-in (omega (arith, within .rules));
         priorities = entry-table (pos 0) (λ (e : Entry). e .priority);
         literals = entry-table (pos 0) (λ (e : Entry). e .literal);
         weights = entry-table (pos 0) (λ (e : Entry). e .weight);
@@ -310,9 +425,7 @@ module _ (P : Program) (w : List ℕ) (good : Good P) (short : length w ≤ 6553
       }
 
   row-in : (j : ℕ) → j < length (P .rules) → RowIn (witness .pool) (rowAt (witness .rules) j)
-  row-in =
-      table-all (RuleIn 1024) ruleLaid ruleRow 8196 (P .rules) atoms-in (RowIn (witness .pool)) (length (witness .pool))
-      (λ i r p l. record { inside = omega (arith, laid-sizes r); single = head-single (r .head) }) (omega (arith, sized .pool, pool-used, within .used))
+  row-in = table-hold (RuleIn 1024) ruleLaid rowOf 8196 (P .rules) atoms-in RowIn row-formed _
 
   abbrev SymbolIn : Row → Type 0
   SymbolIn r = (r .a + r .b ≤ length w) × (r .c + r .d ≤ sum conditionSize (P .symbols))
@@ -334,6 +447,7 @@ module _ (P : Program) (w : List ℕ) (good : Good P) (short : length w ≤ 6553
         formed = record { few = atoms-bound P (good .fine .atoms); long = omega (arith, within .rules, sized .rules); row = row-in; atoms = named-in .rules };
         named = named-in;
         weights = subst (λ (q : Program). All (λ (e : Entry). natAbs (e .weight) ≤ 1000000) (q .entries)) (sym witness-program) (good .fine .weights);
+        bodies = subst (λ (q : Program). All (λ (r : Rule). BodyWeighs (r .body)) (q .rules)) (sym witness-program) (good .fine .bodies);
         levels = subst (λ (q : Program). Descending (q .priorities)) (sym witness-program) (good .fine .down);
         symbols = symbol-in;
       }

@@ -1,6 +1,6 @@
 -- The tables of a program while its lines are read, and what the code's answers about them mean. Assumes nothing: these are definitions.
 use mathlib.Core.Path.{_≡_}
-use mathlib.Core.Bool.{true}
+use mathlib.Core.Bool.{true, false, not}
 use mathlib.Core.List.{List, [], _∷_, _++_}
 use Prim.Native.Nat.{ℕ, _+_, _≤_, _<_, max}
 use lib.Dec.{eqb}
@@ -8,8 +8,9 @@ use lib.IntN.{ℤ, natAbs}
 use lib.ListN.{length, drop}
 use lib.Signed.{ltZ}
 use Rattle.asp.specs.Sets.{pick}
-use Rattle.asp.specs.Program.{Rule, Entry, Symbol, Program, highest, ruleAtoms, atoms, All, ProgramIn}
-use Rattle.asp.specs.Tables.{literalsAt, rowAt, rulesOf, entriesOf, symbolsOf, Tables, programOf, Formed}
+use Rattle.asp.specs.Literal.{oneSigned}
+use Rattle.asp.specs.Program.{Weighed, Body, normal, weighted, Rule, Entry, Symbol, Program, highest, ruleAtoms, atoms, All, ProgramIn}
+use Rattle.asp.specs.Tables.{literalsAt, isChoice, isWeighted, isMixed, Row, rowAt, rulesOf, entriesOf, symbolsOf, Tables, programOf, Formed}
 use Rattle.aspif_lines.specs.Text.{got, bad, nil, ruleLine, Minimise, minimiseLine, symbolLine, Reading, insert, sum, ruleSize, conditionSize, nameSize, limits, Step, stop, last, goes, Answer, accepted, refused, lines, pieces, emptyProgram}
 use Rattle.aspif_lines.specs.Seen.{bytesAt}
 use Rattle.aspif.specs.declared.table.Counts.{Counts}
@@ -46,11 +47,21 @@ Descending (q ∷ qs) = Below q qs × Descending qs
 
 -- ---- rows that lie inside their tables
 
--- the rules lie in the first `used` places of the pool and fill them, and a plain head has one atom at most
-pub record RulesSound (pool : List ℤ) (rules : List ℕ) (n used : ℕ) : Type 0 where
-  pub inside : (j : ℕ) → j < n → rowAt rules j .b + rowAt rules j .c + rowAt rules j .d ≤ used
-  pub single : (j : ℕ) → j < n → (rowAt rules j .a ≡ 1 → ⊥) → rowAt rules j .c ≤ 1
+-- order 2: the places of a weighted body beside those of its literals: its bound and their weights
+abbrev pub extraPlaces : ℕ → ℕ → ℕ
+extraPlaces kind k = pick (isWeighted kind) (k + 1) 0
+
+-- the place after a row's last
+abbrev pub rowEnd : Row → ℕ
+rowEnd r = r .b + r .c + r .d + extraPlaces (r .a) (r .d)
+
+-- the rules lie in the first `filled` places of the pool and take `used` of the literal table, a plain head has one atom at most, and a row's kind is right
+pub record RulesSound (pool : List ℤ) (rules : List ℕ) (n used filled : ℕ) : Type 0 where
+  pub inside : (j : ℕ) → j < n → rowEnd (rowAt rules j) ≤ filled
+  pub single : (j : ℕ) → j < n → isChoice (rowAt rules j .a) ≡ false → rowAt rules j .c ≤ 1
+  pub signed : (j : ℕ) → j < n → isWeighted (rowAt rules j .a) ≡ true → isMixed (rowAt rules j .a) ≡ not (oneSigned (literalsAt pool (rowAt rules j .b + rowAt rules j .c) (rowAt rules j .d)))
   pub size : sum ruleSize (rulesOf pool rules n) ≡ used
+  pub room : filled ≤ used + used + n
 
 -- names lie in the first `end` bytes of the text, conditions in the first `used` places of theirs and fill them
 pub record SymbolsSound (text : List ℕ) (conditions : List ℤ) (symbols : List ℕ) (n used names end : ℕ) : Type 0 where
@@ -60,17 +71,17 @@ pub record SymbolsSound (text : List ℕ) (conditions : List ℤ) (symbols : Lis
 
 -- ---- one statement into the tables: what is read, and the tables with it
 
-abbrev pub ruleCounts : Counts → ℕ → ℕ → ℕ → Counts
-ruleCounts n used top end =
-    record { rules = n .rules + 1; used = used; entries = n .entries; levels = n .levels; symbols = n .symbols; conditions = n .conditions; names = n .names; text = end; atoms = top }
+abbrev pub ruleCounts : Counts → ℕ → ℕ → ℕ → ℕ → Counts
+ruleCounts n used filled top end =
+    record { rules = n .rules + 1; used = used; filled = filled; entries = n .entries; levels = n .levels; symbols = n .symbols; conditions = n .conditions; names = n .names; text = end; atoms = top }
 
 pub record RuleAdded (pool : List ℤ) (rules : List ℕ) (pool′ : List ℤ) (rules′ : List ℕ) (n : Counts) (end : ℕ) (l : List ℕ) (m : Counts) : Type 0 where
   pub read : Rule
   pub line : ruleLine l ≡ got read []
   pub grown : rulesOf pool′ rules′ (n .rules + 1) ≡ rulesOf pool rules (n .rules) ++ (read ∷ [])
-  pub sound : RulesSound pool′ rules′ (n .rules + 1) (m .used)
+  pub sound : RulesSound pool′ rules′ (n .rules + 1) (m .used) (m .filled)
   pub top : m .atoms ≡ max (n .atoms) (ruleAtoms read)
-  pub counts : m ≡ ruleCounts n (m .used) (m .atoms) end
+  pub counts : m ≡ ruleCounts n (m .used) (m .filled) (m .atoms) end
   pub longPool : length pool′ ≡ length pool
   pub longRules : length rules′ ≡ length rules
 
@@ -81,7 +92,7 @@ AddedRule pool rules pool′ rules′ n end l (turn.Goes m) = RuleAdded pool rul
 
 abbrev pub minimiseCounts : Counts → ℕ → ℕ → ℕ → ℕ → Counts
 minimiseCounts n entries levels top end =
-    record { rules = n .rules; used = n .used; entries = entries; levels = levels; symbols = n .symbols; conditions = n .conditions; names = n .names; text = end; atoms = top }
+    record { rules = n .rules; used = n .used; filled = n .filled; entries = entries; levels = levels; symbols = n .symbols; conditions = n .conditions; names = n .names; text = end; atoms = top }
 
 pub record MinimiseAdded (ps ls ws levels ps′ ls′ ws′ levels′ : List ℤ) (n : Counts) (end : ℕ) (l : List ℕ) (m : Counts) : Type 0 where
   pub read : Minimise
@@ -102,7 +113,7 @@ AddedMinimise ps ls ws levels ps′ ls′ ws′ levels′ n end l (turn.Goes m) 
 
 abbrev pub symbolCounts : Counts → ℕ → ℕ → ℕ → ℕ → Counts
 symbolCounts n conditions names top end =
-    record { rules = n .rules; used = n .used; entries = n .entries; levels = n .levels; symbols = n .symbols + 1; conditions = conditions; names = names; text = end; atoms = top }
+    record { rules = n .rules; used = n .used; filled = n .filled; entries = n .entries; levels = n .levels; symbols = n .symbols + 1; conditions = conditions; names = names; text = end; atoms = top }
 
 pub record SymbolAdded (text : List ℕ) (conditions : List ℤ) (symbols : List ℕ) (conditions′ : List ℤ) (symbols′ : List ℕ) (n : Counts) (end : ℕ) (l : List ℕ) (m : Counts) : Type 0 where
   pub read : Symbol
@@ -121,7 +132,7 @@ AddedSymbol text conditions symbols conditions′ symbols′ n end l (turn.Goes 
 
 abbrev pub finalCounts : Counts → ℕ → Counts
 finalCounts n end =
-    record { rules = n .rules; used = n .used; entries = n .entries; levels = n .levels; symbols = n .symbols; conditions = n .conditions; names = n .names; text = end; atoms = n .atoms }
+    record { rules = n .rules; used = n .used; filled = n .filled; entries = n .entries; levels = n .levels; symbols = n .symbols; conditions = n .conditions; names = n .names; text = end; atoms = n .atoms }
 
 -- the `0` line, a comment, or a kind that is not read
 abbrev pub otherTurn : ℕ → List ℕ → Counts → ℕ → LineTurn
@@ -147,7 +158,7 @@ lists text pool rules priorities literals weights levels conditions symbols =
 -- The pools have room for one line beyond the limits, which are judged after the line.
 pub record Sized (t : Lists) : Type 0 where
   pub text : length (t .text) ≡ 65537
-  pub pool : length (t .pool) ≡ 18432
+  pub pool : length (t .pool) ≡ 37889
   pub rules : length (t .rules) ≡ 8196
   pub priorities : length (t .priorities) ≡ 1536
   pub literals : length (t .literals) ≡ 1536
@@ -180,7 +191,7 @@ readingOf t n = record { program = programOf (tables t n); text = bytesAt (t .te
 
 pub record SoundLists (t : Lists) (n : Counts) : Type 0 where
   pub sized : Sized t
-  pub rules : RulesSound (t .pool) (t .rules) (n .rules) (n .used)
+  pub rules : RulesSound (t .pool) (t .rules) (n .rules) (n .used) (n .filled)
   pub symbols : SymbolsSound (t .text) (t .conditions) (t .symbols) (n .symbols) (n .conditions) (n .names) (n .text)
   pub levels : Descending (literalsAt (t .levels) 0 (n .levels))
   pub atoms : n .atoms ≡ atoms (programOf (tables t n))
@@ -228,7 +239,7 @@ VerdictAfter t (verdict.Refused c m) = Unit {0}
 
 -- nothing but so many bytes of text
 abbrev pub noCounts : ℕ → Counts
-noCounts used = record { rules = 0; used = 0; entries = 0; levels = 0; symbols = 0; conditions = 0; names = 0; text = used; atoms = 0 }
+noCounts used = record { rules = 0; used = 0; filled = 0; entries = 0; levels = 0; symbols = 0; conditions = 0; names = 0; text = used; atoms = 0 }
 
 abbrev pub countsOf : TextVerdict → Counts
 countsOf (verdict.Taken n) = n
@@ -255,6 +266,11 @@ abbrev pub answerOf : Stored → Loading → Answer
 answerOf p Accepted = accepted (storedProgram p) (storedText p)
 answerOf p (RefusedAt c m) = refused c m
 
+-- order 2: "Bound is 0 to 1,000,000,000, each weight 0 to 1,000,000"
+abbrev pub BodyWeighs : Body → Type 0
+BodyWeighs (normal ls) = Unit {0}
+BodyWeighs (weighted b ps) = (b ≤ 1000000000) × All (λ (q : Weighed). q .weight ≤ 1000000) ps
+
 -- well-formed tables: their places are inside, their atoms are 1 to n
 pub record WellFormed (p : Stored) : Type 0 where
   pub sized : Sized (listsOf p)
@@ -268,6 +284,7 @@ pub record WellFormed (p : Stored) : Type 0 where
   pub named : ProgramIn (p .counts .atoms) (storedProgram p)
   -- order 1: "Weights now run from -1,000,000 to 1,000,000"
   pub weights : All (λ (e : Entry). natAbs (e .weight) ≤ 1000000) (storedProgram p .entries)
+  pub bodies : All (λ (r : Rule). BodyWeighs (r .body)) (storedProgram p .rules)
   pub levels : Descending (storedProgram p .priorities)
   pub symbols : (j : ℕ) → j < p .counts .symbols → (rowAt (p .symbols) j .a + rowAt (p .symbols) j .b ≤ p .counts .text) × (rowAt (p .symbols) j .c + rowAt (p .symbols) j .d ≤ p .counts .conditions)
 

@@ -1,6 +1,6 @@
 // One statement into the tables.
 use super::table::Counts;
-use super::table::flag;
+use super::table::extra_places;
 use super::table::insert_level;
 use super::table::push_row;
 use aspif_lines::field::is_ended;
@@ -40,24 +40,28 @@ pub fn add_rule(
     n: Counts,
     end: usize,
 ) -> LineTurn
-    requires { ⌜ RulesSound (now pool) (now rules) (n .rules) (n .used) × Within n × (length (now pool) ≡ 18432) × (length (now rules) ≡ 8196) ⌝ }
+    requires { ⌜ RulesSound (now pool) (now rules) (n .rules) (n .used) (n .filled) × Within n × (length (now pool) ≡ 37889) × (length (now rules) ≡ 8196) ⌝ }
     ensures { λ r. ⌜ AddedRule (now (pool .entry)) (now (rules .entry)) (now (pool .exit)) (now (rules .exit)) n end (drop at (now (s .entry))) r ⌝ }
 {
-    let l = read_rule(s, at, pool, n.used, n.atoms);
+    let l = read_rule(s, at, pool, n.filled, n.atoms);
     match l {
         RuleLine::Ruled {
-            choice,
+            kind,
             heads,
             body,
             top,
         } => {
-            push_row(rules, n.rules, flag(choice), n.used, heads, body);
+            push_row(rules, n.rules, kind, n.filled, heads, body);
             let count = n.rules + 1;
-            let used = n.used + heads + body;
+            let places = heads + body;
+            let whole = places + extra_places(kind, body);
+            let used = n.used + places;
+            let filled = n.filled + whole;
             LineTurn::Goes {
                 counts: Counts {
                     rules: count,
                     used: used,
+                    filled: filled,
                     text: end,
                     atoms: top,
                     ..n

@@ -201,6 +201,7 @@ fn no_counts(used: usize) -> Counts
     Counts {
         rules: 0,
         used: 0,
+        filled: 0,
         entries: 0,
         levels: 0,
         symbols: 0,

@@ -2,3 +2,6 @@ pub mod Tokens
 pub mod Signs
 pub mod Spans
 pub mod Heads
+pub mod Readings
+pub mod Pairs
+pub mod RowKinds

@@ -128,6 +128,11 @@ pub highest-none : {A : Type 0} (f : A → ℕ) (n : ℕ) → n ≡ max n (highe
 unfolding highest
 highest-none f n = omega arith
 
+pub highest-span : {A B : Type 0} (f : A → ℕ) (g : ℕ → A) (f′ : B → ℕ) (g′ : ℕ → B) (i k : ℕ) → ((j : ℕ) → f (g j) ≡ f′ (g′ j)) → highest f (span g i k) ≡ highest f′ (span g′ i k)
+unfolding span highest
+highest-span f g f′ g′ i zero h = refl
+highest-span f g f′ g′ i (suc k) h = rw (h i, highest-span f g f′ g′ (i + 1) k h)
+
 -- a plain head has one atom at most
 pub single : (h m : ℕ) → h ≤ 1 → eqb h 1 ≡ false → (eqb h 0 && ltb 1 m) ≡ false → m ≤ 1
 single h m l e f =

@@ -59,7 +59,7 @@ unfolding digits
 digits-none s i h = ⊎-elim (λ l. let e = rw (next-at s i l) at h in rw (drop-cons s i 0 l, e)) (λ g. rw (drop-of-length-le s g)) (lt-or-le i (length s))
 
 abbrev limit : ℕ
-limit = 1000001
+limit = 1000000001
 
 pub cut : (ds : List ℕ) (v : ℕ) → min limit (decimal (min limit v) ds) ≡ min limit (decimal v ds)
 unfolding decimal
@@ -88,14 +88,14 @@ and-false : (a : Bool) → (a && false) ≡ false
 and-false true = refl
 and-false false = refl
 
-cut-range : (lo hi v : ℕ) (r : List ℕ) → hi ≤ 1000000 → pick (within lo hi v) (got v r) (bad 4) ≡ pick (within lo hi (min limit v)) (got (min limit v) r) (bad 4)
+cut-range : (lo hi v : ℕ) (r : List ℕ) → hi ≤ 1000000000 → pick (within lo hi v) (got v r) (bad 4) ≡ pick (within lo hi (min limit v)) (got (min limit v) r) (bad 4)
 cut-range lo hi v r h = ⊎-elim
     (λ l. let e : min limit v ≡ v = omega arith in rw e)
     (λ g. rw (lt-leb v hi (omega arith), lt-leb (min limit v) hi (omega arith), and-false (leb lo v), and-false (leb lo (min limit v))))
     (lt-or-le v limit)
 
 -- a number by its token t, whose value is cut at the limit
-pub numbered : (lo hi v : ℕ) (t : Read ℕ) (r : List ℕ) → hi ≤ 1000000 → got v r ≡ capped t → bind t (ranged lo hi) ≡ ranged lo hi v r
+pub numbered : (lo hi v : ℕ) (t : Read ℕ) (r : List ℕ) → hi ≤ 1000000000 → got v r ≡ capped t → bind t (ranged lo hi) ≡ ranged lo hi v r
 numbered lo hi v (bad c) r h q = let z : _≡_ {A = ℕ} 0 1 = cc in absurd (omega arith)
 numbered lo hi v (got w u) r h q =
     let x : v ≡ min limit w = cc in
@@ -130,8 +130,8 @@ capped-sign minus (bad c) = refl
 capped-sign false (got v r) = refl
 capped-sign true (got zero r) = refl
 capped-sign true (got (suc v) r) =
-    let e : min limit (suc v) ≡ suc (min 1000000 v) = omega arith in
-    rw (e, ne-eqb (suc (min 1000000 v)) 0 (omega arith), ne-eqb (suc v) 0 (omega arith))
+    let e : min limit (suc v) ≡ suc (min 1000000000 v) = omega arith in
+    rw (e, ne-eqb (suc (min 1000000000 v)) 0 (omega arith), ne-eqb (suc v) 0 (omega arith))
 
 -- a space and a minus, or none
 pub minus-there : (l m : List ℕ) → drop 1 l ≡ m → (eqb (next l) 32 && eqb (next m) 45) ≡ true → field signedToken l ≡ bind (token (drop 1 m)) (signing true)
@@ -163,18 +163,18 @@ abs-sign false v = refl
 abs-sign true zero = refl
 abs-sign true (suc v) = refl
 
-cut-upto : (hi : ℕ) (z : ℤ) (r : List ℕ) → hi ≤ 1000000 → signedUpTo hi z r ≡ signedUpTo hi (cutSigned z) r
+cut-upto : (hi : ℕ) (z : ℤ) (r : List ℕ) → hi ≤ 1000000000 → signedUpTo hi z r ≡ signedUpTo hi (cutSigned z) r
 cut-upto hi (pos n) r h = ⊎-elim
     (λ l. let e : min limit n ≡ n = omega arith in rw e)
     (λ g. rw (lt-leb n hi (omega arith), lt-leb (min limit n) hi (omega arith)))
     (lt-or-le n limit)
 cut-upto hi (negsuc n) r h = ⊎-elim
-    (λ l. let e : min 1000000 n ≡ n = omega arith in rw e)
-    (λ g. rw (lt-leb (suc n) hi (omega arith), lt-leb (suc (min 1000000 n)) hi (omega arith)))
-    (lt-or-le n 1000000)
+    (λ l. let e : min 1000000000 n ≡ n = omega arith in rw e)
+    (λ g. rw (lt-leb (suc n) hi (omega arith), lt-leb (suc (min 1000000000 n)) hi (omega arith)))
+    (lt-or-le n 1000000000)
 
 -- a signed number by its token
-pub signed-numbered : (hi : ℕ) (z : ℤ) (t : Read ℤ) (r : List ℕ) → hi ≤ 1000000 → got z r ≡ cappedSigned t → bind t (signedUpTo hi) ≡ signedUpTo hi z r
+pub signed-numbered : (hi : ℕ) (z : ℤ) (t : Read ℤ) (r : List ℕ) → hi ≤ 1000000000 → got z r ≡ cappedSigned t → bind t (signedUpTo hi) ≡ signedUpTo hi z r
 signed-numbered hi z (bad c) r h q = let w : _≡_ {A = ℕ} 0 1 = cc in absurd (omega arith)
 signed-numbered hi z (got y u) r h q =
     let e : z ≡ cutSigned y = cc in

@@ -1,13 +1,15 @@
 -- What the answers of the code's readers mean: a position in a line stands for the rest of the line from there. Assumes nothing: these are definitions.
 use mathlib.Core.Path.{_≡_}
-use mathlib.Core.Bool.{false}
+use mathlib.Core.Bool.{Bool, true, false, not}
 use mathlib.Core.List.{List, [], _∷_, map}
 use Prim.Native.Nat.{ℕ, _+_, _≤_, _<_, min, max}
 use lib.IntN.{ℤ, pos, negsuc, natAbs}
 use lib.ListN.{length, getD, drop}
-use Rattle.asp.specs.Program.{Rule, Entry, Symbol, highest}
-use Rattle.asp.specs.Tables.{span, literalsAt, entryAt, Row, rowAt, named}
-use Rattle.aspif_lines.specs.Text.{Read, got, bad, withSign, Opening, ruleOf, Minimise, pieces}
+use Rattle.asp.specs.Sets.{pick}
+use Rattle.asp.specs.Literal.{oneSigned}
+use Rattle.asp.specs.Program.{Weighed, Body, normal, weighted, Rule, Entry, Symbol, highest, bodyAtoms, ruleAtoms}
+use Rattle.asp.specs.Tables.{span, literalsAt, isChoice, isWeighted, isMixed, pairsAt, ruleAt, entryAt, Row, rowAt, named}
+use Rattle.aspif_lines.specs.Text.{Read, got, bad, withSign, Opening, Minimise, pieces}
 use Rattle.aspif_lines.specs.declared.token.Token.{Token}
 use Rattle.aspif_lines.specs.declared.token.Token.the-variants as token
 use Rattle.aspif_lines.specs.declared.token.SignedToken.{SignedToken}
@@ -22,6 +24,8 @@ use Rattle.aspif_lines.specs.declared.rule.Opens.{Opens}
 use Rattle.aspif_lines.specs.declared.rule.Opens.the-variants as opens
 use Rattle.aspif_lines.specs.declared.rule.RuleLine.{RuleLine}
 use Rattle.aspif_lines.specs.declared.rule.RuleLine.the-variants as ruleLine
+use Rattle.aspif_lines.specs.declared.body.BodyPart.{BodyPart}
+use Rattle.aspif_lines.specs.declared.body.BodyPart.the-variants as bodyPart
 use Rattle.aspif_lines.specs.declared.minimise.Pair.{Pair}
 use Rattle.aspif_lines.specs.declared.minimise.Pair.the-variants as pair
 use Rattle.aspif_lines.specs.declared.minimise.MinimiseLine.{MinimiseLine}
@@ -39,9 +43,9 @@ refusal (bad c) = c
 
 -- ---- numbers
 
--- a token's value stops at 1,000,001, which is above every range
+-- a token's value stops at 1,000,000,001, which is above every range
 abbrev pub capped : Read ℕ → Read ℕ
-capped (got v l) = got (min 1000001 v) l
+capped (got v l) = got (min 1000000001 v) l
 capped (bad c) = bad c
 
 abbrev pub seenToken : List ℕ → Token → Read ℕ
@@ -50,8 +54,8 @@ seenToken s token.Malformed = bad 2
 
 -- the same with a minus
 abbrev pub cutSigned : ℤ → ℤ
-cutSigned (pos n) = pos (min 1000001 n)
-cutSigned (negsuc n) = negsuc (min 1000000 n)
+cutSigned (pos n) = pos (min 1000000001 n)
+cutSigned (negsuc n) = negsuc (min 1000000000 n)
 
 abbrev pub cappedSigned : Read ℤ → Read ℤ
 cappedSigned (got z l) = got (cutSigned z) l
@@ -108,19 +112,63 @@ OpensSmall (opens.Refused c) = Unit {0}
 pub record Positive (ls : List ℤ) : Type 0 where
   pub positive : highest natAbs ls ≡ highest (λ (a : ℕ). a) (map named ls)
 
--- a rule whose heads and body were read into the pool from i on
+-- order 2: a pair of a body
+abbrev pub seenWeighed : List ℕ → Pair → Read Weighed
+seenWeighed s (pair.Paired z w n) = got (record { literal = z; weight = natAbs w }) (drop n s)
+seenWeighed s (pair.Refused c) = bad c
+
+-- k pairs were read into the pool from i on, the weights behind a place for the bound
+abbrev pub seenPairs : List ℕ → List ℤ → ℕ → ℕ → Listed → Read (List Weighed)
+seenPairs s pool i k (listed.Upto n t) = got (pairsAt pool (k + 1) i k) (drop n s)
+seenPairs s pool i k (listed.Refused c) = bad c
+
+-- the body of k literals from i on
+abbrev pub bodyFrom : List ℤ → Bool → ℕ → ℕ → Body
+bodyFrom pool w i k = pick w (weighted (natAbs (getD pool (i + k) (pos 0))) (pairsAt pool (k + 1) i k)) (normal (literalsAt pool i k))
+
+abbrev pub seenBody : List ℕ → List ℤ → ℕ → BodyPart → Read Body
+seenBody s pool i (bodyPart.Body w m k n t) = got (bodyFrom pool w i k) (drop n s)
+seenBody s pool i (bodyPart.Refused c) = bad c
+
+-- how many literals it has, whether some atom of a weighted one stands with both signs, and the highest atom so far
+pub record BodyGood (pool : List ℤ) (w m : Bool) (i k top t : ℕ) : Type 0 where
+  pub few : k ≤ 1024
+  pub signed : w ≡ true → m ≡ not (oneSigned (literalsAt pool i k))
+  pub atoms : t ≡ max top (bodyAtoms (bodyFrom pool w i k))
+
+abbrev pub BodyFound : List ℤ → ℕ → ℕ → BodyPart → Type 0
+BodyFound pool i top (bodyPart.Body w m k n t) = BodyGood pool w m i k top t
+BodyFound pool i top (bodyPart.Refused c) = Unit {0}
+
+-- a row's kind: whether it is a choice, whether its body is weighted, and then whether some atom stands with both signs
+abbrev pub kindOf : Bool → Bool → Bool → ℕ
+kindOf false false m = 0
+kindOf true false m = 1
+kindOf false true false = 2
+kindOf true true false = 3
+kindOf false true true = 4
+kindOf true true true = 5
+
+-- the row of a rule whose m head atoms and k body literals stand in the pool from i on
+abbrev pub ruleRow : ℕ → ℕ → ℕ → ℕ → Row
+ruleRow kind i m k = record { a = kind; b = i; c = m; d = k }
+
 abbrev pub seenRule : List ℤ → ℕ → RuleLine → Read Rule
-seenRule pool i (ruleLine.Ruled ch m k t) = got (ruleOf ch (literalsAt pool i m) (literalsAt pool (i + m) k)) []
+seenRule pool i (ruleLine.Ruled kind m k t) = got (ruleAt pool (ruleRow kind i m k)) []
 seenRule pool i (ruleLine.Refused c) = bad c
 
-abbrev pub RuleSmall : RuleLine → Type 0
-RuleSmall (ruleLine.Ruled ch m k t) = (m ≤ 1024) × (k ≤ 1024) × (ch ≡ false → m ≤ 1)
-RuleSmall (ruleLine.Refused c) = Unit {0}
+-- a row that is small and says what it has to, and the highest atom so far
+pub record RuleGood (pool : List ℤ) (r : Row) (top t : ℕ) : Type 0 where
+  pub kind : r .a ≤ 5
+  pub heads : r .c ≤ 1024
+  pub body : r .d ≤ 1024
+  pub single : isChoice (r .a) ≡ false → r .c ≤ 1
+  pub signed : isWeighted (r .a) ≡ true → isMixed (r .a) ≡ not (oneSigned (literalsAt pool (r .b + r .c) (r .d)))
+  pub atoms : t ≡ max top (ruleAtoms (ruleAt pool r))
 
-abbrev pub RuleTop : List ℤ → ℕ → ℕ → RuleLine → Type 0
-RuleTop pool i top (ruleLine.Ruled ch m k t) =
-    (t ≡ max (max top (highest natAbs (literalsAt pool i m))) (highest natAbs (literalsAt pool (i + m) k))) × Positive (literalsAt pool i m)
-RuleTop pool i top (ruleLine.Refused c) = Unit {0}
+abbrev pub RuleFound : List ℤ → ℕ → ℕ → RuleLine → Type 0
+RuleFound pool i top (ruleLine.Ruled kind m k t) = RuleGood pool (ruleRow kind i m k) top t
+RuleFound pool i top (ruleLine.Refused c) = Unit {0}
 
 -- ---- entries: a priority, a literal and a weight at each place of three tables
 

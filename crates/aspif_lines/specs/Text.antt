@@ -1,5 +1,5 @@
 -- What a text is: its refusal and line, or its program and the text less its comment lines.
--- Document 01, "The text" and "Refused because of what was handed in", and order 1 of document 02: their sentences stand here as comments. Assumes nothing: these are definitions.
+-- Document 01, "The text" and "Refused because of what was handed in", and orders 1 and 2 of document 02: their sentences stand here as comments. Assumes nothing: these are definitions.
 use mathlib.Core.Bool.{Bool, true, false, not, _&&_}
 use mathlib.Core.List.{List, [], _∷_, _++_, map}
 use Prim.Native.Nat.{ℕ, zero, suc, _+_, _-_, _*_}
@@ -9,7 +9,7 @@ use lib.ListN.{length, getD, drop}
 use lib.Signed.{ltZ}
 use Rattle.asp.specs.Sets.{pick}
 use Rattle.asp.specs.Literal.{sameℤ}
-use Rattle.asp.specs.Program.{Literal, Body, normal, Head, constraint, plain, choice, Rule, Entry, Symbol, Program}
+use Rattle.asp.specs.Program.{Literal, Weighed, Body, normal, weighted, Head, constraint, plain, choice, Rule, Entry, Symbol, Program}
 use Rattle.asp.specs.Tables.{named, plainHead}
 
 -- Reading in a line gives a value and what follows it in the line, or the number of a refusal.
@@ -117,7 +117,7 @@ more f (suc k) xs l = bind (f l) (λ a r. more f k (xs ++ (a ∷ [])) r)
 abbrev pub ended : {A : Type 0} → A → List ℕ → Read A
 ended a l = pick (nil l) (got a []) (bad 2)
 
--- ---- `1 h m atoms b k literals`: a rule
+-- ---- `1 h m atoms b ..`: a rule
 
 -- "h is 0 (plain head) or 1 (choice)"
 pub record Opening : Type 0 where
@@ -131,25 +131,40 @@ opening l =
     bind (natural 0 1024 l) (λ m l.
     pick (eqb h 0 && ltb 1 m) (bad 3) (got (record { choice = eqb h 1; count = m }) l)))
 
--- `b k`: "b is 0"; "3: .. b = 1"
-unfoldable pub bodyCount : List ℕ → Read ℕ
-bodyCount l = bind (natural 0 1 l) (λ b l. pick (eqb b 1) (bad 3) (natural 0 1024 l))
+-- `k literals`, after b = 0
+unfoldable pub normalBody : List ℕ → Read Body
+normalBody l = bind (natural 0 1024 l) (λ k l. bind (more (memberField false) k [] l) (λ ls l. got (normal ls) l))
+
+-- order 2: "k pairs of literal and weight"; "each weight 0 to 1,000,000, and a minus .. is malformed"
+unfoldable pub weighedField : List ℕ → Read Weighed
+weighedField l = bind (literal l) (λ z l. bind (natural 0 1000000 l) (λ w l. got (record { literal = z; weight = w }) l))
+
+-- order 2: "`1 bound k`, then k pairs of literal and weight. Bound is 0 to 1,000,000,000 .. and a minus .. is malformed."
+unfoldable pub weightedBody : List ℕ → Read Body
+weightedBody l =
+    bind (natural 0 1000000000 l) (λ bound l.
+    bind (natural 0 1024 l) (λ k l.
+    bind (more weighedField k [] l) (λ ps l.
+    got (weighted bound ps) l)))
+
+-- "b is 0"; order 2: "Body kind b = 1 is read"
+unfoldable pub bodyField : List ℕ → Read Body
+bodyField l = bind (natural 0 1 l) (λ b l. pick (eqb b 1) (weightedBody l) (normalBody l))
 
 -- "With h = 0, m is 0 (a constraint) or 1"
 abbrev pub headOf : Bool → List ℕ → Head
 headOf true hs = choice hs
 headOf false hs = plainHead hs
 
-abbrev pub ruleOf : Bool → List Literal → List Literal → Rule
-ruleOf c heads body = record { head = headOf c (map named heads); body = normal body }
+abbrev pub ruleOf : Bool → List Literal → Body → Rule
+ruleOf c heads body = record { head = headOf c (map named heads); body = body }
 
 unfoldable pub ruleLine : List ℕ → Read Rule
 ruleLine l =
     bind (opening l) (λ o l.
     bind (more (memberField true) (o .count) [] l) (λ heads l.
-    bind (bodyCount l) (λ k l.
-    bind (more (memberField false) k [] l) (λ body l.
-    ended (ruleOf (o .choice) heads body) l))))
+    bind (bodyField l) (λ body l.
+    ended (ruleOf (o .choice) heads body) l)))
 
 -- ---- `2 p k` and k pairs of literal and weight: minimise at priority p
 
@@ -250,8 +265,10 @@ headSize constraint = 0
 headSize (plain a) = 1
 headSize (choice hs) = length hs
 
+-- order 2: "Each pair takes one place in the literal table."
 abbrev pub bodySize : Body → ℕ
 bodySize (normal ls) = length ls
+bodySize (weighted b ps) = length ps
 
 abbrev pub ruleSize : Rule → ℕ
 ruleSize r = headSize (r .head) + bodySize (r .body)

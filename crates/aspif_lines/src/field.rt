@@ -9,6 +9,7 @@ use asp::literal::positive;
 ghost use mathlib.Core.List.{List, []};
 ghost use mathlib.Core.Path.{_≡_};
 ghost use Prim.Native.Nat.{ℕ, _≤_};
+ghost use lib.IntN.{pos};
 ghost use lib.ListN.{drop};
 ghost use Rattle.aspif_lines.specs.Text.{within, ranged, number, field, natural, withSign, signed, atom, literal, nil};
 ghost use Rattle.aspif_lines.specs.Seen.{refusal, seenNumber, seenSigned, Between, Small};
@@ -72,7 +73,7 @@ fn in_range(value: u32, next: usize, lo: u32, hi: u32) -> Number
 
 // The number that stands at `at`, by form and range.
 pub fn read_number(s: &[u8], at: usize, lo: u32, hi: u32) -> Number
-    requires { ⌜ hi ≤ 1000000 ⌝ }
+    requires { ⌜ hi ≤ 1000000000 ⌝ }
     ensures { λ r. ⌜ (seenNumber (now (s .entry)) r ≡ number lo hi (drop at (now (s .entry)))) × Between lo hi r ⌝ }
 {
     let Token::Digits { value, next } = read_token(s, at) else {
@@ -83,13 +84,21 @@ pub fn read_number(s: &[u8], at: usize, lo: u32, hi: u32) -> Number
 
 // A space, and a number.
 pub fn read_natural(s: &[u8], at: usize, lo: u32, hi: u32) -> Number
-    requires { ⌜ hi ≤ 1000000 ⌝ }
+    requires { ⌜ hi ≤ 1000000000 ⌝ }
     ensures { λ r. ⌜ (seenNumber (now (s .entry)) r ≡ natural lo hi (drop at (now (s .entry)))) × Between lo hi r ⌝ }
 {
     let Token::Digits { value, next } = read_field_token(s, at) else {
         return Number::Refused { code: 2 };
     };
     in_range(value, next, lo, hi)
+}
+
+// A bound or a weight of a body.
+pub fn whole(v: u32) -> i32
+    requires { ⌜ v ≤ 1000000000 ⌝ }
+    ensures { λ r. ⌜ r ≡ pos v ⌝ }
+{
+    v as i32
 }
 
 // A literal, a priority or a weight, by its sign.

@@ -4,6 +4,8 @@ pub mod room; // the sizes of the tables
 pub mod token; // numbers by their form
 pub mod field; // numbers, atoms and literals, by form, range and accepted part
 pub mod members; // the atoms of a head, the literals of a body or condition, into a pool
-pub mod rule; // `1 h m atoms b k literals`
+pub mod weighted; // k pairs of literal and weight, into a pool
+pub mod body; // `0 k literals`, or `1 bound k` and k pairs of literal and weight
+pub mod rule; // `1 h m atoms` and a body
 pub mod minimise; // `2 p k` and k pairs of literal and weight
 pub mod symbol; // `4 m s k literals`

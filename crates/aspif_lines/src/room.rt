@@ -1,7 +1,8 @@
 // The sizes of the tables: document 01's limits, with room for one line beyond them, since the limits are judged after the line.
 pub const TEXT_ROOM: usize = 65536 + 1;
 
-pub const POOL_ROOM: usize = 16384 + 2048; // head atoms and body literals
+// head atoms and body literals; order 2: a bound for each rule and a weight for each literal
+pub const POOL_ROOM: usize = 16384 * 2 + 2048 + 3073;
 
 pub const RULE_ROOM: usize = 4 * (2048 + 1); // a row of four numbers for each rule
 

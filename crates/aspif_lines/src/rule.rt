@@ -1,4 +1,6 @@
-// `1 h m atoms b k literals`: a rule.
+// `1 h m atoms` and a body: a rule.
+use super::body::BodyPart;
+use super::body::read_body;
 use super::field::MOST_COUNT;
 use super::field::Number;
 use super::field::is_ended;
@@ -14,8 +16,8 @@ ghost use Prim.Native.Nat.{_+_, _<_, _≤_};
 ghost use lib.Dec.{eqb, ltb};
 ghost use lib.ListN.{length, drop};
 ghost use lib.IntN.{pos};
-ghost use Rattle.aspif_lines.specs.Text.{opening, bodyCount, ruleLine};
-ghost use Rattle.aspif_lines.specs.Seen.{refusal, seenNumber, Between, seenOpens, OpensSmall, seenRule, RuleSmall, RuleTop, Kept};
+ghost use Rattle.aspif_lines.specs.Text.{opening, ruleLine};
+ghost use Rattle.aspif_lines.specs.Seen.{refusal, seenOpens, OpensSmall, kindOf, seenRule, RuleFound, Kept};
 
 // How a rule opens: whether it is a choice, and how many head atoms follow.
 pub enum Opens {
@@ -69,23 +71,23 @@ fn too_many(h: u32, m: u32) -> bool
     h == 0 && 1 < m
 }
 
-fn read_body_count(s: &[u8], at: usize) -> Number
-    ensures { λ r. ⌜ (seenNumber (now (s .entry)) r ≡ bodyCount (drop at (now (s .entry)))) × Between 0 1024 r ⌝ }
+// A row's kind (asp::table).
+fn kind_of(choice: bool, weighted: bool, mixed: bool) -> usize
+    ensures { λ r. ⌜ r ≡ kindOf choice weighted mixed ⌝ }
 {
-    let a = read_natural(s, at, 0, 1);
-    let Number::Value { value: b, next } = a else {
-        return Number::Refused { code: a.code() };
-    };
-    if b == 1 {
-        return Number::Refused { code: 3 };
+    if weighted {
+        if mixed {
+            return if choice { 5 } else { 4 };
+        }
+        return if choice { 3 } else { 2 };
     }
-    read_natural(s, next, 0, MOST_COUNT)
+    if choice { 1 } else { 0 }
 }
 
-// A rule, its head atoms and then its body literals in the pool.
+// A rule of a row's kind, its head atoms and then its body in the pool.
 pub enum RuleLine {
     Ruled {
-        choice: bool,
+        kind: usize,
         heads: usize,
         body: usize,
         top: usize,
@@ -96,8 +98,8 @@ pub enum RuleLine {
 }
 
 pub fn read_rule(s: &[u8], at: usize, pool: &mut Pool, used: usize, top: usize) -> RuleLine
-    requires { ⌜ used + 2048 ≤ length (now pool) ⌝ }
-    ensures { λ r. ⌜ (seenRule (now (pool .exit)) used r ≡ ruleLine (drop at (now (s .entry)))) × RuleSmall r × RuleTop (now (pool .exit)) used top r × Kept (pos 0) used (now (pool .entry)) (now (pool .exit)) ⌝ }
+    requires { ⌜ used + 3073 ≤ length (now pool) ⌝ }
+    ensures { λ r. ⌜ (seenRule (now (pool .exit)) used r ≡ ruleLine (drop at (now (s .entry)))) × RuleFound (now (pool .exit)) used top r × Kept (pos 0) used (now (pool .entry)) (now (pool .exit)) ⌝ }
 {
     let o = read_opening(s, at);
     let Opens::Open {
@@ -112,18 +114,20 @@ pub fn read_rule(s: &[u8], at: usize, pool: &mut Pool, used: usize, top: usize) 
     let Listed::Upto { next: b, top: t } = h else {
         return RuleLine::Refused { code: h.code() };
     };
-    let n = read_body_count(s, b);
-    let Number::Value { value: k, next: c } = n else {
-        return RuleLine::Refused { code: n.code() };
-    };
-    let body = size(k);
-    let l = read_members(s, c, false, body, pool, used + count, t);
-    let Listed::Upto { next: e, top: u } = l else {
-        return RuleLine::Refused { code: l.code() };
+    let d = read_body(s, b, pool, used + count, t);
+    let BodyPart::Body {
+        weighted,
+        mixed,
+        count: body,
+        next: e,
+        top: u,
+    } = d
+    else {
+        return RuleLine::Refused { code: d.code() };
     };
     if is_ended(s, e) {
         return RuleLine::Ruled {
-            choice: choice,
+            kind: kind_of(choice, weighted, mixed),
             heads: count,
             body: body,
             top: u,

@@ -7,7 +7,7 @@ ghost use lib.ListN.{length, drop};
 ghost use Rattle.aspif_lines.specs.Text.{next, isDigit, digits, decimal, over, token, field, signedToken};
 ghost use Rattle.aspif_lines.specs.Seen.{capped, seenToken, cappedSigned, seenSignedToken};
 
-// The form of a number: its value, or 1,000,001 if that is less, and the position after it.
+// The form of a number: its value, or 1,000,000,001 if that is less, and the position after it.
 pub enum Token {
     Digits { value: u32, next: usize },
     Malformed,
@@ -24,7 +24,10 @@ pub enum SignedToken {
 }
 
 // Above every range: no value of a token is greater.
-const BEYOND: u32 = 1000001;
+const BEYOND: u32 = 1000000001;
+
+// No digit more after a greater value is below it.
+const TENTH: u32 = 100000000;
 
 pub struct Scanned {
     pub value: u32,
@@ -64,18 +67,21 @@ fn wide(b: u8) -> u32
     b as u32
 }
 
-// One more digit, and no more than 1,000,001.
+// One more digit, and no more than 1,000,000,001.
 fn push(v: u32, b: u8) -> u32
-    requires { ⌜ (v ≤ 1000001) × (48 ≤ b) ⌝ }
-    ensures { λ r. ⌜ r ≡ min 1000001 (v * 10 + (b - 48)) ⌝ }
+    requires { ⌜ (v ≤ 1000000001) × (48 ≤ b) ⌝ }
+    ensures { λ r. ⌜ r ≡ min 1000000001 (v * 10 + (b - 48)) ⌝ }
 {
+    if TENTH < v {
+        return BEYOND;
+    }
     let n = v * 10 + (wide(b) - 48);
     if n < BEYOND { n } else { BEYOND }
 }
 
 // The digits from `at` on.
 fn scan(s: &[u8], at: usize) -> Scanned
-    ensures { λ r. ⌜ (r .next ≡ at + length (digits (drop at (now (s .entry))))) × (r .value ≡ min 1000001 (decimal 0 (digits (drop at (now (s .entry)))))) ⌝ }
+    ensures { λ r. ⌜ (r .next ≡ at + length (digits (drop at (now (s .entry))))) × (r .value ≡ min 1000000001 (decimal 0 (digits (drop at (now (s .entry)))))) ⌝ }
 {
     let mut i = at;
     let mut v: u32 = 0;

@@ -2,6 +2,7 @@
 use asp::literal::atom;
 use asp::literal::is_negative;
 use asp::penalty::size;
+use asp::table::is_weighted;
 use aspif::text::Stored;
 use aspif_lines::token::byte_at;
 ghost use Prim.Native.Nat.{_≤_};
@@ -95,6 +96,24 @@ fn fold_weight(h: u32, w: i32) -> u32 {
     fold(b, v % 1000)
 }
 
+// A bound or a weight of a body.
+fn fold_size(h: u32, w: i32) -> u32 {
+    let v = size(w);
+    let a = fold(h, v / 20000);
+    fold(a, v % 20000)
+}
+
+fn fold_sizes(h: u32, t: &[i32], from: usize, k: usize) -> u32 {
+    let mut g = h;
+    let mut i: usize = 0;
+    while i < k {
+        let j = std::num::wrapping_add_usize(from, i);
+        g = fold_size(g, literal(t, j));
+        i += 1;
+    }
+    g
+}
+
 fn fold_literals(h: u32, t: &[i32], from: usize, k: usize) -> u32 {
     let mut g = h;
     let mut i: usize = 0;
@@ -122,10 +141,18 @@ fn fold_rule<'a>(h: u32, pool: &'a [i32], rules: &'a [u16], r: usize) -> u32 {
     let first = cell(rules, i + 1);
     let heads = cell(rules, i + 2);
     let body = cell(rules, i + 3);
-    let a = fold_number(h, cell(rules, i));
+    let kind = cell(rules, i);
+    let a = fold_number(h, kind);
     let b = fold_number(a, heads);
     let c = fold_number(b, body);
-    fold_literals(c, pool, first, std::num::wrapping_add_usize(heads, body))
+    let size = std::num::wrapping_add_usize(heads, body);
+    let d = fold_literals(c, pool, first, size);
+    if !is_weighted(kind) {
+        return d;
+    }
+    // the bound and the weights, behind the literals
+    let behind = std::num::wrapping_add_usize(first, size);
+    fold_sizes(d, pool, behind, std::num::wrapping_add_usize(body, 1))
 }
 
 fn fold_rules<'a>(pool: &'a [i32], rules: &'a [u16], count: usize) -> u32 {

@@ -1,6 +1,6 @@
 // Reads texts from standard input, each as its length in eight digits and then its bytes, and prints the answer to each load.
 // An accepted text's answer has figures of its tables and of what is written out; what is written is loaded again, and must give the same figures.
-// tests/aspif_texts.py writes the texts and their answers from document 01 and order 1.
+// tests/aspif_texts.py writes the texts and their answers from document 01 and orders 1 and 2.
 mod figures;
 
 use asp::literal::is_negative;

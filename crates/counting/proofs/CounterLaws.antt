@@ -9,9 +9,9 @@ use lib.ListN.{length, getD, set, length-set}
 use borrow.Author.Tests.{lt-ltb, le-ltb, eq-eqb, ne-eqb}
 use Rattle.asp.specs.Sets.{pick}
 use Rattle.counting.specs.declared.counters.Marks.{Marks}
-use Rattle.counting.specs.Moves.{Fit}
 use Rattle.counting.specs.declared.counters.Index.{Index}
-use Rattle.counting.specs.Counters.{index, Shaped, Counters, counters, marks, plusOne, least, lowerMarks, raiseMarks, freedMarks, freed, lowerAt, raiseAt, lowerFrom, raiseFrom, first, listLength, shiftOf, decideOf, releaseOf}
+use Rattle.counting.specs.Moves.{RowReadable, ListReadable}
+use Rattle.counting.specs.Counters.{index, Shaped, Counters, counters, marks, plusOne, least, lowerMarks, raiseMarks, freedMarks, freed, lowerAt, raiseAt, lowerFrom, raiseFrom, first, listLength, shiftOf, decideOf, releaseOf, brokenAfter, putMarks, putAt, Bodies, numberOf, weighFrom, weighOf, restNumber, weighNumber}
 
 pub more-one : (k : ℕ) → k < 65535 → k + 1 ≡ plusOne k
 more-one k h = rw (lt-ltb k 65535 h)
@@ -231,17 +231,93 @@ decide-len o a s t = go (eqb s 1)
     go true = shift-len o (a * 2) (a * 2 + 1) t
     go false = shift-len o (a * 2 + 1) (a * 2) t
 
-module _ {s rs v key : List ℕ} where
-  pub fit-shaped : Fit (index s rs) v key → Shaped (index s rs)
-  fit-shaped f = f .shaped
-
-  pub fit-key : Fit (index s rs) v key → length key ≡ 2048
-  fit-key f = f .key-len
-
-module _ {s rs v : List ℕ} (key : List ℕ) (m : Marks) (a y : ℕ) where
-  pub released-long : Fit (index s rs) v key → {key₁ : List ℕ} {m₁ : Marks} → counters key₁ m₁ ≡ releaseOf (index s rs) a y (counters key m) → length key₁ ≡ 2048
-  released-long f q = ap (λ (t : Counters). length (t .key)) q ∙ release-len (index s rs) a y (counters key m) ∙ f .key-len
+module _ (s rs key : List ℕ) (m : Marks) (a y : ℕ) where
+  pub released-long : length key ≡ 2048 → {key₁ : List ℕ} {m₁ : Marks} → counters key₁ m₁ ≡ releaseOf (index s rs) a y (counters key m) → length key₁ ≡ 2048
+  released-long f q = ap (λ (t : Counters). length (t .key)) q ∙ release-len (index s rs) a y (counters key m) ∙ f
 
 module _ (o : Index) (a s : ℕ) where
   pub assigned : {t₁ t₂ t₃ : Counters} → t₂ ≡ decideOf o a s t₁ → t₁ ≡ t₃ → t₂ ≡ decideOf o a s t₃
   assigned p q = p ∙ ap (decideOf o a s) q
+
+-- ---- order 2: another number
+
+module _ (old new b : ℕ) where
+  pub broken-still : new ≡ 0 → old ≡ 0 → b ≡ brokenAfter old new b
+  broken-still p q = rw (eq-eqb new 0 p, eq-eqb old 0 q)
+
+  pub broken-more : new ≡ 0 → (old ≡ 0 → ⊥) → {x : ℕ} → x ≡ plusOne b → x ≡ brokenAfter old new b
+  broken-more p q e = rw (eq-eqb new 0 p, ne-eqb old 0 q) e
+
+  pub broken-less : (new ≡ 0 → ⊥) → old ≡ 0 → {x : ℕ} → x ≡ b - 1 → x ≡ brokenAfter old new b
+  broken-less p q e = rw (ne-eqb new 0 p, eq-eqb old 0 q) e
+
+  pub broken-same : (new ≡ 0 → ⊥) → (old ≡ 0 → ⊥) → b ≡ brokenAfter old new b
+  broken-same p q = rw (ne-eqb new 0 p, ne-eqb old 0 q)
+
+module _ (r new low : ℕ) where
+  pub low-here : new < 2 → {x : ℕ} → x ≡ least r low → x ≡ pick (ltb new 2) (least r low) low
+  low-here p e = rw (lt-ltb new 2 p) e
+
+  pub low-still : 2 ≤ new → low ≡ pick (ltb new 2) (least r low) low
+  low-still p = rw (le-ltb new 2 p)
+
+  pub zero-here : new ≡ 0 → {x : ℕ} → x ≡ least r low → x ≡ pick (eqb new 0) (least r low) low
+  zero-here p e = rw (eq-eqb new 0 p) e
+
+  pub zero-still : (new ≡ 0 → ⊥) → low ≡ pick (eqb new 0) (least r low) low
+  zero-still p = rw (ne-eqb new 0 p)
+
+pub marks-put : (m : Marks) (r old new : ℕ) {b l z : ℕ} → b ≡ brokenAfter old new (m .broken) → l ≡ pick (ltb new 2) (least r (m .low)) (m .low) → z ≡ pick (eqb new 0) (least r (m .zero)) (m .zero) → marks b l z (m .atom) ≡ putMarks r old new m
+marks-put m r old new p q s = rw (p, q, s)
+
+pub put-one : (key : List ℕ) (r x : ℕ) (m : Marks) {n : Marks} → n ≡ putMarks r (getD key r 0) x m → counters (set key r x) n ≡ putAt r x (counters key m)
+unfolding putAt
+put-one key r x m q = rw q
+
+put-len : (r x : ℕ) (t : Counters) → length (putAt r x t .key) ≡ length (t .key)
+unfolding putAt
+put-len r x t = simp length-set
+
+weigh-all-len : (b : Bodies) (v rs : List ℕ) (e k : ℕ) (t : Counters) → length (weighFrom b v rs e k t .key) ≡ length (t .key)
+unfolding weighFrom
+weigh-all-len b v rs e zero t = refl
+weigh-all-len b v rs e (suc k) t = weigh-all-len b v rs (e + 1) k (putAt (getD rs e 0) (numberOf b v (getD rs e 0)) t) ∙ put-len (getD rs e 0) (numberOf b v (getD rs e 0)) t
+
+pub weigh-len : (b : Bodies) (o : Index) (a : ℕ) (v : List ℕ) (t : Counters) → length (weighOf b o a v t .key) ≡ length (t .key)
+unfolding weighOf
+weigh-len b o a v t = weigh-all-len b v (o .rules) (first o (2050 + a)) (listLength o (2050 + a)) t
+
+pub record Weighing (b : Bodies) (v rs : List ℕ) (from end : ℕ) (t₀ t : Counters) (e : ℕ) : Type 0 where
+  pub long : length (t .key) ≡ 2048
+  pub after : from ≤ e
+  pub rest : weighFrom b v rs e (end - e) t ≡ weighFrom b v rs from (end - from) t₀
+
+module _ (b : Bodies) (v rs : List ℕ) (from end : ℕ) where
+  pub weighing-start : (t : Counters) → length (t .key) ≡ 2048 → Weighing b v rs from end t t from
+  weighing-start t l = record { long = l; after = omega arith; rest = refl }
+
+  pub weighing-next : {t₀ t : Counters} {e : ℕ} → Weighing b v rs from end t₀ t e → e < end → {r : ℕ} → r ≡ getD rs e 0 → {x : ℕ} → x ≡ numberOf b v r → {t₁ : Counters} → t₁ ≡ putAt r x t → Weighing b v rs from end t₀ t₁ (e + 1)
+  unfolding weighFrom
+  weighing-next {t₀} {t} {e} w h er ex et = rw (et, ex, er) (record {
+    long = put-len (getD rs e 0) (numberOf b v (getD rs e 0)) t ∙ w .long;
+    after = omega (arith, w .after);
+    rest = let q : end - e ≡ suc (end - (e + 1)) = omega arith in rw q at (w .rest);
+  })
+
+  module _ (l : ListReadable b rs from end) {t₀ t : Counters} {e : ℕ} (w : Weighing b v rs from end t₀ t e) (h : e < end) where
+    pub weighing-inside : e < length rs
+    weighing-inside = omega (arith, l .inside)
+
+    pub weighing-row : {r : ℕ} → r ≡ getD rs e 0 → RowReadable b r
+    weighing-row er = rw er (l .each e (w .after) h)
+
+    pub weighing-small : {r : ℕ} → r ≡ getD rs e 0 → r < 2048
+    weighing-small er = rw er (l .small e)
+
+  pub weighing-done : {t₀ t : Counters} {e : ℕ} → Weighing b v rs from end t₀ t e → end ≤ e → t ≡ weighFrom b v rs from (end - from) t₀
+  unfolding weighFrom
+  weighing-done {t₀} {t} {e} w h = let q : end - e ≡ 0 = omega arith in rw q at (w .rest)
+
+pub weighed-all : (b : Bodies) (s rs v : List ℕ) (a : ℕ) (t : Counters) {x y : ℕ} → x ≡ getD s (2050 + a) 0 → y ≡ getD s (2050 + a + 1) 0 → {t₁ : Counters} → t₁ ≡ weighFrom b v rs x (y - x) t → t₁ ≡ weighOf b (index s rs) a v t
+unfolding weighOf
+weighed-all b s rs v a t ex ey e = rw (ex, ey) at e

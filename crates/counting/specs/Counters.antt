@@ -2,19 +2,24 @@
 use mathlib.Core.Path.{_≡_}
 use mathlib.Core.Bool.{Bool, true, false}
 use mathlib.Core.List.{List}
+use lib.IntN.{ℤ}
 use Prim.Native.Nat.{ℕ, zero, suc, _+_, _-_, _*_, _≤_, _<_}
 use lib.Dec.{eqb, ltb}
 use lib.ListN.{length, getD, set}
 use Rattle.asp.specs.Sets.{pick}
+use Rattle.asp.specs.Tables.{Row, rowAt}
+use Rattle.search.specs.Scan.{headRest, weightedRest}
+use Rattle.search.specs.declared.scan.Rest.{Rest}
+use Rattle.search.specs.declared.scan.Rest.the-variants.{All, One, Off}
 use Rattle.counting.specs.declared.counters.Index.{Index}
 use Rattle.counting.specs.declared.counters.Marks.{Marks}
 
--- literal a has list 2a, and its negation list 2a + 1; among the heads atom a has list a
+-- literal a has list 2a, and its negation list 2a + 1; order 2: the rules with a weighted body that name the atom a have list 2050 + a. Among the heads atom a has list a.
 abbrev pub index : List ℕ → List ℕ → Index
 index s r = record { starts = s; rules = r }
 
 pub record Shaped (o : Index) : Type 0 where
-  pub long : length (o .starts) ≡ 2051
+  pub long : length (o .starts) ≡ 3076
   pub inside : (i : ℕ) → getD (o .starts) i 0 ≤ length (o .rules)
   pub small : (e : ℕ) → getD (o .rules) e 0 < 2048
 
@@ -77,3 +82,42 @@ decideOf o a s t = pick (eqb s 1) (shiftOf o (a * 2) (a * 2 + 1) t) (shiftOf o (
 
 unfoldable pub releaseOf : Index → ℕ → ℕ → Counters → Counters
 releaseOf o a y t = pick (eqb y 0) t (pick (eqb y 1) (shiftOf o (a * 2 + 1) (a * 2) (freed a t)) (shiftOf o (a * 2) (a * 2 + 1) (freed a t)))
+
+-- ---- order 2: a rule with a weighted body has its number from the values alone, and gets it anew where the value of one of its atoms changes
+
+abbrev pub restNumber : Rest → ℕ
+restNumber All = 0
+restNumber (One l) = 1
+restNumber Off = 2
+
+unfoldable pub weighNumber : List ℤ → List ℕ → Row → ℕ
+weighNumber pool v w = restNumber (headRest pool v w) + restNumber (weightedRest pool v w)
+
+-- the tables that say the bodies
+pub record Bodies : Type 0 where
+  pub pool : List ℤ
+  pub rows : List ℕ
+
+abbrev pub bodies : List ℤ → List ℕ → Bodies
+bodies p r = record { pool = p; rows = r }
+
+abbrev pub numberOf : Bodies → List ℕ → ℕ → ℕ
+numberOf b v r = weighNumber (b .pool) v (rowAt (b .rows) r)
+
+-- the marks after rule r had `old` and has `new`
+abbrev pub brokenAfter : ℕ → ℕ → ℕ → ℕ
+brokenAfter old new b = pick (eqb new 0) (pick (eqb old 0) b (plusOne b)) (pick (eqb old 0) (b - 1) b)
+
+abbrev pub putMarks : ℕ → ℕ → ℕ → Marks → Marks
+putMarks r old new m = marks (brokenAfter old new (m .broken)) (pick (ltb new 2) (least r (m .low)) (m .low)) (pick (eqb new 0) (least r (m .zero)) (m .zero)) (m .atom)
+
+unfoldable pub putAt : ℕ → ℕ → Counters → Counters
+putAt r k t = counters (set (t .key) r k) (putMarks r (getD (t .key) r 0) k (t .marks))
+
+unfoldable pub weighFrom : Bodies → List ℕ → List ℕ → ℕ → ℕ → Counters → Counters
+weighFrom b v rs e zero t = t
+weighFrom b v rs e (suc k) t = weighFrom b v rs (e + 1) k (putAt (getD rs e 0) (numberOf b v (getD rs e 0)) t)
+
+-- the rules that name the atom a
+unfoldable pub weighOf : Bodies → Index → ℕ → List ℕ → Counters → Counters
+weighOf b o a v t = weighFrom b v (o .rules) (first o (2050 + a)) (listLength o (2050 + a)) t

@@ -3,12 +3,11 @@ use asp::table::number_at;
 ghost use mathlib.Core.Path.{_≡_};
 ghost use Prim.Native.Nat.{ℕ, _+_, _-_, _*_, _≤_, _<_};
 ghost use lib.ListN.{length, getD, set};
-ghost use Rattle.counting.specs.Moves.{Fit};
 ghost use Rattle.counting.specs.Counters.{index, Shaped, counters, plusOne, lowerMarks, raiseMarks, freedMarks, lowerAt, raiseAt, lowerFrom, raiseFrom, shiftOf, decideOf, releaseOf};
 
-// The rules in which a literal is a condition, or an atom is a head: list i has the places from `starts` at i to `starts` at i + 1 of `rules`.
+// The rules in which a literal is a condition, or an atom is a head (or one that a weighted body names): list i has the places from `starts` at i to `starts` at i + 1 of `rules`.
 pub struct Index {
-    pub starts: [u16; 2051],
+    pub starts: [u16; 3076],
     pub rules: [u16; 16385],
 }
 
@@ -38,7 +37,7 @@ fn raised(k: u16) -> u16
     k
 }
 
-fn bump(b: usize) -> usize
+pub fn bump(b: usize) -> usize
     ensures { λ r. ⌜ r ≡ plusOne b ⌝ }
 {
     if b < 65535 {
@@ -47,7 +46,7 @@ fn bump(b: usize) -> usize
     b
 }
 
-fn fall(b: usize) -> usize
+pub fn fall(b: usize) -> usize
     ensures { λ r. ⌜ r ≡ b - 1 ⌝ }
 {
     if b == 0 {
@@ -56,7 +55,7 @@ fn fall(b: usize) -> usize
     b - 1
 }
 
-fn least(r: usize, low: usize) -> usize
+pub fn least(r: usize, low: usize) -> usize
     ensures { λ x. ⌜ x ≡ Rattle.counting.specs.Counters.least r low ⌝ }
 {
     if r < low {
@@ -238,7 +237,7 @@ pub fn forget<'a>(
     key: &mut [u16; 2048],
     m: Marks,
 ) -> Marks
-    requires { ⌜ Fit (index (now starts) (now rules)) (now value) (now key) × (a ≤ 1024) ⌝ }
+    requires { ⌜ (Shaped (index (now starts) (now rules)) × (length (now key) ≡ 2048)) × (a ≤ 1024) ⌝ }
     ensures { λ x. ⌜ counters (now (key .exit)) x ≡ releaseOf (index (now (starts .entry)) (now (rules .entry))) a (getD (now (value .entry)) a 0) (counters (now (key .entry)) m) ⌝ }
 {
     let y = value[a];
@@ -255,7 +254,7 @@ pub fn assign<'a>(
     key: &mut [u16; 2048],
     m: Marks,
 ) -> Marks
-    requires { ⌜ Fit (index (now starts) (now rules)) (now value) (now key) × (a ≤ 1024) ⌝ }
+    requires { ⌜ (Shaped (index (now starts) (now rules)) × (length (now key) ≡ 2048)) × (a ≤ 1024) ⌝ }
     ensures { λ x. ⌜ counters (now (key .exit)) x ≡ decideOf (index (now (starts .entry)) (now (rules .entry))) a s (releaseOf (index (now (starts .entry)) (now (rules .entry))) a (getD (now (value .entry)) a 0) (counters (now (key .entry)) m)) ⌝ }
 {
     let x = forget(starts, rules, value, a, key, m);

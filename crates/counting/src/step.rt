@@ -148,7 +148,7 @@ pub fn step<'a>(
     let q = x.marks;
     match t {
         Tested::RuleBroken(_) => {
-            let k = trail::back(starts, lists, lits, signs, value, key, len, q);
+            let k = trail::back(pool, rows, starts, lists, lits, signs, value, key, len, q);
             let after = k.marks;
             AfterStep {
                 tested: t,
@@ -162,7 +162,7 @@ pub fn step<'a>(
             marks: q,
         },
         Tested::SoftViolated(_) => {
-            let k = trail::back(starts, lists, lits, signs, value, key, len, q);
+            let k = trail::back(pool, rows, starts, lists, lits, signs, value, key, len, q);
             let after = k.marks;
             AfterStep {
                 tested: t,
@@ -171,7 +171,19 @@ pub fn step<'a>(
             }
         }
         Tested::Open(l) => {
-            let k = trail::push(starts, lists, lits, signs, value, key, len, l, q);
+            let k = trail::push(
+                pool,
+                rows,
+                starts,
+                lists,
+                lits,
+                signs,
+                value,
+                key,
+                len,
+                l,
+                q,
+            );
             let after = k.marks;
             AfterStep {
                 tested: t,

@@ -15,7 +15,7 @@ use Rattle.search.specs.Places.{places, Good, SoundTrail, sideOf, valueOn, trai
 use Rattle.asp.specs.Literal.{isNegative}
 use Rattle.asp.proofs.Signed.{clash}
 use Rattle.search.specs.Trail.{Trail, literalOf, on, FormedTrail}
-use Rattle.search.specs.Scan.{Rules, rules, isAll, noteOf, scanFrom, scanOf, restOf}
+use Rattle.search.specs.Scan.{Rules, rules, isAll, noteOf, scanFrom, scanOf, restOf, Readable}
 use Rattle.search.specs.Soft.{AssumedEntries, violatedOf}
 use Rattle.search.specs.Branch.{branchOf}
 use Rattle.search.specs.Step.{openOr, unbroken, testBy, testOf, Stepped, stepped, movedBy, stepOf}
@@ -34,10 +34,10 @@ use Rattle.counting.specs.Counts.{Tells}
 use Rattle.counting.proofs.Telling.{told}
 use Rattle.counting.specs.declared.counters.Marks.{Marks}
 use Rattle.counting.specs.declared.counters.Index.{Index}
-use Rattle.counting.specs.Counters.{index, Counters, counters}
+use Rattle.counting.specs.Counters.{index, Counters, counters, Bodies, bodies}
 use Rattle.counting.specs.Moves.{CountedTrail, countedTrail, Fit, backAll}
 use Rattle.counting.specs.Counts.{Tracks, Indexed}
-use Rattle.counting.proofs.StepLaws.{back-trail, counted-back, counted-fit}
+use Rattle.counting.proofs.StepLaws.{back-trail, counted-back, indexed-weighable}
 use Rattle.indexing.specs.Sorting.{Readied, Sorted}
 use Rattle.indexing.specs.Leaf.{Whole, Unbroken, Leaf, Indexes, Equipped}
 use Rattle.indexing.proofs.Indexing.{indexed}
@@ -52,15 +52,15 @@ module _ {g : Rules} {o h : Index} {v : List ℕ} {t : Counters} (x : Equipped g
   pub equipped-after : {v₁ : List ℕ} {t₁ : Counters} → Tracks g o v₁ t₁ → Equipped g o h v₁ t₁
   equipped-after k = record { readied = x .readied; conditions = x .conditions; heads = x .heads; counted = k }
 
-module _ {g : Rules} {starts lists : List ℕ} {h : Index} {v key : List ℕ} {m : Marks} (x : Equipped g (index starts lists) h v (counters key m)) where
-  pub equipped-fit : {ls : List ℤ} {ms : List ℕ} {len : ℕ} → Good (places ls ms v len) → Fit (index starts lists) v key
-  equipped-fit f = record { shaped = x .conditions .shaped; value-len = f .value-len; key-len = x .counted .marked .long }
+module _ {pool : List ℤ} {rows : List ℕ} {count : ℕ} {starts lists : List ℕ} {h : Index} {v key : List ℕ} {m : Marks} (x : Equipped (rules pool rows count) (index starts lists) h v (counters key m)) where
+  pub equipped-fit : {ls : List ℤ} {ms : List ℕ} {len : ℕ} → Good (places ls ms v len) → Fit (bodies pool rows) (index starts lists) v key
+  equipped-fit f = record { weighable = indexed-weighable (equipped-indexed x) (x .readied .readable); shaped = x .conditions .shaped; value-len = f .value-len; key-len = x .counted .marked .long }
 
-pub back-is : (o : Index) (t : Places) (y : Counters) {t₁ : Places} {y₁ : Counters} → countedTrail t₁ y₁ ≡ backAll o (countedTrail t y) → t₁ ≡ backOf t
-back-is o t y z = ap (λ (h : CountedTrail). h .trail) z ∙ back-trail o (t .len) (countedTrail t y)
+pub back-is : (bs : Bodies) (o : Index) (t : Places) (y : Counters) {t₁ : Places} {y₁ : Counters} → countedTrail t₁ y₁ ≡ backAll bs o (countedTrail t y) → t₁ ≡ backOf t
+back-is bs o t y z = ap (λ (h : CountedTrail). h .trail) z ∙ back-trail bs o (t .len) (countedTrail t y)
 
 module _ {g : Rules} {o h : Index} {ls : List ℤ} {ms v : List ℕ} {len : ℕ} {y : Counters} (x : Equipped g o h v y) (f : Good (places ls ms v len)) where
-  pub back-equipped : {ls₁ : List ℤ} {ms₁ v₁ : List ℕ} {k₁ : ℕ} {y₁ : Counters} → countedTrail (places ls₁ ms₁ v₁ k₁) y₁ ≡ backAll o (countedTrail (places ls ms v len) y) → Equipped g o h v₁ y₁
+  pub back-equipped : {ls₁ : List ℤ} {ms₁ v₁ : List ℕ} {k₁ : ℕ} {y₁ : Counters} → countedTrail (places ls₁ ms₁ v₁ k₁) y₁ ≡ backAll (bodies (g .pool) (g .rows)) o (countedTrail (places ls ms v len) y) → Equipped g o h v₁ y₁
   back-equipped z = equipped-after x (counted-back (places ls ms v len) y (equipped-indexed x) f (x .counted) z)
 
 module _ {g : Rules} {o h : Index} (x : Indexes g o h) where
@@ -71,8 +71,8 @@ module _ {g : Rules} {o h : Index} (x : Indexes g o h) where
   pub equipped : {v : List ℕ} {t : Counters} → Tracks g o v t → Equipped g o h v t
   equipped e = record { readied = x .readied; conditions = x .conditions; heads = x .heads; counted = e }
 
-pub lists-long : {pool : List ℤ} {rows : List ℕ} {count : ℕ} {o h : Index} → Indexes (rules pool rows count) o h → count * 4 ≤ length rows
-lists-long x = x .readied .readable .long
+pub lists-readable : {g : Rules} {o h : Index} → Indexes g o h → Readable g
+lists-readable x = x .readied .readable
 
 -- ---- a full trail
 

@@ -6,9 +6,10 @@ use Prim.Native.Nat.{ℕ, zero, suc, _+_, _*_, _≤_, _<_}
 use lib.Dec.{eqb}
 use lib.ListN.{length, getD}
 use Rattle.asp.specs.Sets.{pick}
-use Rattle.asp.specs.Tables.{rowAt}
+use lib.IntN.{ℤ}
+use Rattle.asp.specs.Tables.{isChoice, isWeighted, Row, rowAt}
 use Rattle.counting.specs.declared.counters.Index.{Index}
-use Rattle.counting.specs.Counters.{Counters, first, listLength, raiseFrom}
+use Rattle.counting.specs.Counters.{Counters, first, listLength, raiseFrom, weighNumber}
 use Rattle.counting.specs.Counts.{brokenMany}
 
 unfoldable pub raiseList : Index → ℕ → Counters → Counters
@@ -18,8 +19,12 @@ raiseList o i t = raiseFrom (o .rules) (first o i) (listLength o i) t
 unfoldable pub addedOf : Index → ℕ → ℕ → Counters → Counters
 addedOf o a y t = raiseList o (pick (eqb y 2) (a * 2) (a * 2 + 1)) (raiseList o (pick (eqb y 1) (a * 2 + 1) (a * 2)) t)
 
--- the first r rules have the number of a rule without conditions
-pub record Based (rows key : List ℕ) (broken r : ℕ) : Type 0 where
+-- the number of a rule without conditions; order 2: that of one with a weighted body, by the values
+abbrev pub baseOf : List ℤ → List ℕ → Row → ℕ
+baseOf pool v w = pick (isWeighted (w .a)) (weighNumber pool v w) (pick (isChoice (w .a)) 2 0)
+
+-- the first r rules have it
+pub record Based (pool : List ℤ) (rows v key : List ℕ) (broken r : ℕ) : Type 0 where
   pub long : length key ≡ 2048
-  pub each : (j : ℕ) → j < r → getD key j 0 ≡ pick (eqb (rowAt rows j .a) 1) 2 0
+  pub each : (j : ℕ) → j < r → getD key j 0 ≡ baseOf pool v (rowAt rows j)
   pub zero-many : broken ≡ brokenMany key r

@@ -82,5 +82,5 @@ pub fn back<'a>(
     requires { ⌜ Equipped (rules (now pool) (now rows) rulecount) (index (now starts) (now lists)) (index (now headstarts) (now headlists)) (now value) (counters (now key) m) ⌝ }
     ensures { λ r. ⌜ (places (now (lits .exit)) (now (signs .exit)) (now (value .exit)) (r .len) ≡ backOf (places (now (lits .entry)) (now (signs .entry)) (now (value .entry)) len)) × Equipped (rules (now (pool .entry)) (now (rows .entry)) rulecount) (index (now (starts .entry)) (now (lists .entry))) (index (now (headstarts .entry)) (now (headlists .entry))) (now (value .exit)) (counters (now (key .exit)) (r .marks)) ⌝ }
 {
-    trail::back(starts, lists, lits, signs, value, key, len, m)
+    trail::back(pool, rows, starts, lists, lits, signs, value, key, len, m)
 }

@@ -16,7 +16,7 @@ abbrev pub storedWith : Counts → Stored
 storedWith k =
     record {
       text = replicate 65537 0;
-      pool = replicate 18432 (pos 0);
+      pool = replicate 37889 (pos 0);
       rules = replicate 8196 0;
       priorities = replicate 1536 (pos 0);
       literals = replicate 1536 (pos 0);

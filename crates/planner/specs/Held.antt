@@ -23,13 +23,13 @@ service l p ix q = record { loaded = l; stored = p; prepared = ix; search = q }
 -- ---- nothing is loaded
 
 abbrev pub emptyCounts : Counts
-emptyCounts = record { rules = 0; used = 0; entries = 0; levels = 0; symbols = 0; conditions = 0; names = 0; text = 0; atoms = 0 }
+emptyCounts = record { rules = 0; used = 0; filled = 0; entries = 0; levels = 0; symbols = 0; conditions = 0; names = 0; text = 0; atoms = 0 }
 
 abbrev pub emptyStored : Stored
 emptyStored =
     record {
       text = replicate 65537 0;
-      pool = replicate 18432 (pos 0);
+      pool = replicate 37889 (pos 0);
       rules = replicate 8196 0;
       priorities = replicate 1536 (pos 0);
       literals = replicate 1536 (pos 0);

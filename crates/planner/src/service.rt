@@ -53,6 +53,7 @@ fn empty_counts() -> Counts
     Counts {
         rules: 0,
         used: 0,
+        filled: 0,
         entries: 0,
         levels: 0,
         symbols: 0,
@@ -68,7 +69,7 @@ fn empty_stored() -> Stored
 {
     Stored {
         text: [0; 65537],
-        pool: [0; 18432],
+        pool: [0; 37889],
         rules: [0; 8196],
         priorities: [0; 1536],
         literals: [0; 1536],

@@ -4,22 +4,24 @@ use mathlib.Core.Path.{_≡_, refl, sym, ap, _∙_, subst, fun-ext}
 use mathlib.Core.Bool.{Bool, true, false, not, _&&_, _||_}
 use mathlib.Core.List.{List, [], _∷_}
 use mathlib.Core.Logic.{_⊎_, inl, inr, ⊎-map}
-use Prim.Native.Nat.{ℕ, zero, suc, _≤_, _<_}
+use Prim.Native.Nat.{ℕ, zero, suc, _+_, _-_, _≤_, _<_, min}
 use native.Mathlib.Omega.{arith}
 use native.Mathlib.Decide.{decLe}
-use lib.Dec.{T, eqb, eqb-refl}
+use lib.Dec.{T, eqb, eqb-refl, leb, leb→le, le→leb}
 use lib.IntN.{ℤ, pos, negsuc, negℤ, natAbs}
 use mir.Facts.{and-yes, yes-and, or-yes, eqb-yes, T-not, not-T}
 use borrow.Author.Tests.{eqb-true, eqb-false}
 use Rattle.asp.specs.Sets.{Set, In, Only, pick}
 use Rattle.asp.specs.Literal.{isNegative}
-use Rattle.asp.specs.Program.{Literal, Body, normal, Head, constraint, plain, choice, Rule, All, LiteralIn, BodyIn, HeadIn, RuleIn}
-use Rattle.asp.specs.Stable.{holds, allHold, bodyHolds}
+use Rattle.asp.specs.Program.{Literal, Weighed, Body, normal, weighted, Head, constraint, plain, choice, Rule, All, LiteralIn, BodyIn, HeadIn, RuleIn}
+use Rattle.asp.specs.Stable.{holds, allHold, counts, bodyHolds}
 use Rattle.asp.proofs.Signed.{abs-neg, clash}
 use Rattle.asp.proofs.Literals.{holds-complement}
 use Rattle.search.specs.Trail.{Marked, Trail, literalOf, on, NotOn, FormedTrail, Agrees, InAll, trailSet}
 use Rattle.search.specs.Query.{noHeadIn, brokenIn, violatedIn, Some, HoldsAll, RuleFails, SoftFails}
+use Rattle.search.specs.Weigh.{total}
 use Rattle.search.proofs.Counts.{not-on, yes-or-left, yes-or-right}
+use Rattle.search.proofs.Totals.{PairsIn, sum-same, sum-mono, byAtoms, Rises, by-pair, none-by, counts-by}
 
 -- ---- the tests on a trail
 
@@ -37,8 +39,20 @@ headOn t constraint = true
 headOn t (plain h) = litOn t (negℤ (pos h))
 headOn t (choice hs) = false
 
+-- Order 2: the least weight that a pair adds in the sets that agree with the trail, with the pairs ps after it. A decided literal: its weight if it is on the
+-- trail, else 0. An undecided one: what the weights of its complement among ps exceed those of the literal itself there, up to its own weight; so 0 unless the
+-- atom stands in the body with both signs.
+abbrev pub pairOwed : Trail → Weighed → List Weighed → ℕ
+pairOwed t p ps = pick (on t (natAbs (p .literal))) (pick (holds (trailSet t) (p .literal)) (p .weight) 0) (min (p .weight) (total (negℤ (p .literal)) ps - total (p .literal) ps))
+
+-- the least weight that the pairs count in the sets that agree with the trail
+unfoldable pub owed : Trail → List Weighed → ℕ
+owed t [] = 0
+owed t (p ∷ ps) = pairOwed t p ps + owed t ps
+
 abbrev pub bodyOn : Trail → Body → Bool
 bodyOn t (normal ls) = litsOn t ls
+bodyOn t (weighted b ps) = leb b (owed t ps)
 
 abbrev pub ruleOn : Trail → Rule → Bool
 ruleOn t r = headOn t (r .head) && bodyOn t (r .body)
@@ -145,6 +159,81 @@ all-lits n t w (l ∷ ls) h =
     yes-and (litOn t l) (litsOn t ls) (all-lit n t w l (λ M g. and-yes (holds M l) (allHold M M ls) (h M g) .0))
     (all-lits n t w ls (λ M g. and-yes (holds M l) (allHold M M ls) (h M g) .1))
 
+-- ---- order 2: the least weight over the sets that agree
+
+-- what an atom gives at least: the side it is on; undecided, the lesser of its two totals
+abbrev pub sideOn : Trail → ℕ → ℕ → ℕ → ℕ
+sideOn t x P N = pick (on t x) (pick (trailSet t x) P N) (min P N)
+
+pub owed-by : (n : ℕ) (t : Trail) (ps : List Weighed) → PairsIn n ps → owed t ps ≡ byAtoms (sideOn t) n ps
+unfolding owed
+owed-by n t [] i = sym (none-by (sideOn t) (λ x. nothing (on t x) (trailSet t x)) n)
+  where
+    nothing : (a b : Bool) → _≡_ {A = ℕ} (pick a (pick b 0 0) (min 0 0)) 0
+    nothing true true = refl
+    nothing true false = refl
+    nothing false b = omega arith
+owed-by n t (p ∷ ps) i =
+    ap (λ (x : ℕ). pairOwed t p ps + x) (owed-by n t ps (i .1)) ∙ sym (by-pair (sideOn t) n p ps (pairOwed t p ps) (i .0) (rises (p .literal) (i .0)))
+  where
+    rises : (l : ℤ) → LiteralIn n l → (P N : ℕ) → total (pos (natAbs l)) ps ≡ P → total (negℤ (pos (natAbs l))) ps ≡ N
+        → Rises (sideOn t) l (p .weight) (pick (on t (natAbs l)) (pick (holds (trailSet t) l) (p .weight) 0) (min (p .weight) (total (negℤ l) ps - total l ps))) P N
+    rises (pos zero) j P N e f = absurd (omega arith)
+    rises (pos (suc a)) j P N e f =
+        rw (e, f) (elim (on t (suc a)) as (λ b. pick b (pick (trailSet t (suc a)) (p .weight + P) N) (min (p .weight + P) N)
+        ≡ pick b (pick (trailSet t (suc a)) (p .weight) 0) (min (p .weight) (N - P)) + pick b (pick (trailSet t (suc a)) P N) (min P N))
+        [ true ↦ elim (trailSet t (suc a)) as (λ b. pick b (p .weight + P) N ≡ pick b (p .weight) 0 + pick b P N) [ true ↦ refl | false ↦ omega arith ] | false ↦ omega arith ])
+    rises (negsuc a) j P N e f =
+        rw (e, f) (elim (on t (suc a)) as (λ b. pick b (pick (trailSet t (suc a)) P (p .weight + N)) (min P (p .weight + N))
+        ≡ pick b (pick (not (trailSet t (suc a))) (p .weight) 0) (min (p .weight) (P - N)) + pick b (pick (trailSet t (suc a)) P N) (min P N))
+        [ true ↦ elim (trailSet t (suc a)) as (λ b. pick b P (p .weight + N) ≡ pick (not b) (p .weight) 0 + pick b P N) [ true ↦ omega arith | false ↦ refl ] | false ↦ omega arith ])
+
+-- every set that agrees counts at least that much
+pub owed-le : (n : ℕ) (t : Trail) (ps : List Weighed) → PairsIn n ps → (M : Set) → Agrees M t → owed t ps ≤ counts M M ps
+owed-le n t ps i M g =
+    rw (owed-by n t ps i, counts-by n M ps i) (sum-mono n _ _ (λ x j. less x (total (pos x) ps) (total (negℤ (pos x)) ps) (on t x) refl))
+  where
+    less : (x P N : ℕ) (b : Bool) → on t x ≡ b → pick b (pick (trailSet t x) P N) (min P N) ≤ pick (M x) P N
+    less x P N true e = rw (set-same t M x g (rw e tt)) (omega arith)
+    less x P N false e = elim (M x) as (λ c. min P N ≤ pick c P N) [ true ↦ omega arith | false ↦ omega arith ]
+
+-- the set that agrees and takes the lesser side of every undecided atom
+pub lightest : Trail → List Weighed → Set
+lightest t ps x = pick (on t x) (trailSet t x) (leb (total (pos x) ps) (total (negℤ (pos x)) ps))
+
+agrees-like : (M N : Set) (t u : Trail) → ((a : ℕ) → T (on u a) → N a ≡ M a) → ((a : ℕ) → T (on t a) → T (on u a)) → Agrees M t → Agrees N t
+agrees-like M N [] u f h g = tt
+agrees-like M N (s ∷ t) u f h g = (
+  rw (holds-at N M (literalOf s) (f (natAbs (literalOf s)) (h (natAbs (literalOf s)) (yes-or-left (eqb (natAbs (literalOf s)) (natAbs (literalOf s))) (on t (natAbs (literalOf s))) (eqb-refl (natAbs (literalOf s))))))) (g .0),
+  agrees-like M N t u f (λ a x. h a (yes-or-right (eqb a (natAbs (literalOf s))) (on t a) x)) (g .1),
+)
+
+pub lightest-agrees : (n : ℕ) (t : Trail) → FormedTrail n t → (ps : List Weighed) → Agrees (lightest t ps) t
+unfolding lightest
+lightest-agrees n t w ps = agrees-like (trailSet t) (lightest t ps) t t (λ a x. here a (on t a) refl x) (λ a x. x) (set-agrees n t w)
+  where
+    here : (a : ℕ) (b : Bool) → on t a ≡ b → T (on t a) → pick (on t a) (trailSet t a) (leb (total (pos a) ps) (total (negℤ (pos a)) ps)) ≡ trailSet t a
+    here a true e x = rw e
+    here a false e x = absurd (rw e at x)
+
+-- and it counts just that
+pub lightest-counts : (n : ℕ) (t : Trail) (ps : List Weighed) → PairsIn n ps → counts (lightest t ps) (lightest t ps) ps ≡ owed t ps
+unfolding lightest
+lightest-counts n t ps i =
+    counts-by n (lightest t ps) ps i
+    ∙ sum-same n _ _ (λ x j. equal x (total (pos x) ps) (total (negℤ (pos x)) ps) (on t x) (leb (total (pos x) ps) (total (negℤ (pos x)) ps)) refl) ∙ sym (owed-by n t ps i)
+  where
+    equal : (x P N : ℕ) (b c : Bool) → leb P N ≡ c → pick (pick b (trailSet t x) c) P N ≡ pick b (pick (trailSet t x) P N) (min P N)
+    equal x P N true c e = refl
+    equal x P N false true e = let h : P ≤ N = leb→le P N (rw e tt) in omega arith
+    equal x P N false false e = let h : ¬ (P ≤ N) = λ l. no c′ (le→leb P N l) in omega arith
+      where
+        c′ : leb P N ≡ false
+        c′ = e
+
+        no : leb P N ≡ false → T (leb P N) → ⊥
+        no q x = rw q at x
+
 -- ---- rules: both ways
 
 head-is : (M : Set) (h : ℕ) → 1 ≤ h → holds M (negℤ (pos h)) ≡ not (M h)
@@ -161,23 +250,25 @@ all-head n t w constraint i k = tt
 all-head n t w (plain h) i k = all-lit n t w (negℤ (pos h)) (λ M g. rw (head-is M h (i .0)) (k M g))
 all-head n t w (choice hs) i k = k (trailSet t) (set-agrees n t w)
 
-body-all : (t : Trail) (b : Body) → T (bodyOn t b) → InAll t (λ M. T (bodyHolds M M b))
-body-all t (normal ls) x = lits-all t ls x
+body-all : (n : ℕ) (t : Trail) (b : Body) → BodyIn n b → T (bodyOn t b) → InAll t (λ M. T (bodyHolds M M b))
+body-all n t (normal ls) i x M g = lits-all t ls x M g
+body-all n t (weighted b ps) i x M g = le→leb b (counts M M ps) (omega (arith, leb→le b (owed t ps) x, owed-le n t ps i M g))
 
-all-body : (n : ℕ) (t : Trail) → FormedTrail n t → (b : Body) → InAll t (λ M. T (bodyHolds M M b)) → T (bodyOn t b)
-all-body n t w (normal ls) k = all-lits n t w ls k
+all-body : (n : ℕ) (t : Trail) → FormedTrail n t → (b : Body) → BodyIn n b → InAll t (λ M. T (bodyHolds M M b)) → T (bodyOn t b)
+all-body n t w (normal ls) i k = all-lits n t w ls k
+all-body n t w (weighted b ps) i k = rw (← lightest-counts n t ps i) (k (lightest t ps) (lightest-agrees n t w ps))
 
 -- A rule is broken in every set that agrees just if all its conditions are on the trail.
 pub rule-all : (n : ℕ) (t : Trail) (r : Rule) → RuleIn n r → T (ruleOn t r) → InAll t (λ M. T (brokenIn M r))
 rule-all n t r i x M g =
     let h = and-yes (headOn t (r .head)) (bodyOn t (r .body)) x in
-    yes-and (noHeadIn M (r .head)) (bodyHolds M M (r .body)) (head-all n t (r .head) (i .0) (h .0) M g) (body-all t (r .body) (h .1) M g)
+    yes-and (noHeadIn M (r .head)) (bodyHolds M M (r .body)) (head-all n t (r .head) (i .0) (h .0) M g) (body-all n t (r .body) (i .1) (h .1) M g)
 
 pub all-rule : (n : ℕ) (t : Trail) → FormedTrail n t → (r : Rule) → RuleIn n r → InAll t (λ M. T (brokenIn M r)) → T (ruleOn t r)
 all-rule n t w r i k =
     yes-and (headOn t (r .head)) (bodyOn t (r .body))
     (all-head n t w (r .head) (i .0) (λ M g. and-yes (noHeadIn M (r .head)) (bodyHolds M M (r .body)) (k M g) .0))
-    (all-body n t w (r .body) (λ M g. and-yes (noHeadIn M (r .head)) (bodyHolds M M (r .body)) (k M g) .1))
+    (all-body n t w (r .body) (i .1) (λ M g. and-yes (noHeadIn M (r .head)) (bodyHolds M M (r .body)) (k M g) .1))
 
 pub rules-all : (n : ℕ) (t : Trail) (rs : List Rule) → All (RuleIn n) rs → T (rulesOn t rs) → RuleFails t rs
 unfolding rulesOn

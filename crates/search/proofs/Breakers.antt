@@ -1,21 +1,21 @@
--- The literal that the scan notes is the first that would break a rule if added: said by sets, as the rule is broken in every set that agrees with the trail
--- and that literal. Where none is noted, there is none. Assumes nothing.
+-- The literal that the scan notes would break a rule if added: said by sets, as the rule is broken in every set that agrees with the trail and that literal.
+-- Where none is noted, there is none but of weighted bodies. Assumes nothing.
 use mathlib.Core.Path.{_≡_, refl, sym, ap, _∙_}
 use mathlib.Core.Bool.{Bool, true, false, not, _&&_, _||_}
 use mathlib.Core.List.{List, [], _∷_}
 use mathlib.Core.Logic.{_⊎_, inl, inr, ⊎-elim}
 use Prim.Native.Nat.{ℕ, zero, suc, _+_, _-_, _≤_, _<_}
 use native.Mathlib.Omega.{arith}
-use lib.Dec.{T, eqb, eqb-refl}
+use lib.Dec.{T, eqb, eqb-refl, leb→le, le→leb}
 use lib.IntN.{ℤ, pos, negsuc, negℤ, natAbs}
 use lib.ListN.{length, getD}
 use mir.Facts.{and-yes, yes-and, or-yes, eqb-yes}
 use borrow.Author.Tests.{eq-eqb, ne-eqb, eqb-true, eqb-false}
 use Rattle.asp.specs.Sets.{Set, In, pick}
 use Rattle.asp.specs.Literal.{sameℤ, isNegative}
-use Rattle.asp.specs.Program.{Rule, RuleIn}
+use Rattle.asp.specs.Program.{Weighed, weighted, Rule, RuleIn}
 use Rattle.asp.specs.Stable.{holds}
-use Rattle.asp.specs.Tables.{Row, rowAt, ruleAt, RowIn, Formed}
+use Rattle.asp.specs.Tables.{isChoice, isWeighted, isMixed, pairsAt, boundAt, headAt, Row, rowAt, ruleAt, RowIn, Formed}
 use Rattle.asp.proofs.Signed.{clash}
 use Rattle.search.specs.declared.scan.Rest.{Rest}
 use Rattle.search.specs.declared.scan.Rest.the-variants.{All, One, Off}
@@ -24,26 +24,24 @@ use Rattle.search.specs.declared.scan.Found.the-variants.{Broken, Breake
 use Rattle.search.specs.Trail.{decision, Trail, on, NotOn, FormedTrail, InAll, trailSet}
 use Rattle.search.specs.Query.{brokenIn}
 use Rattle.search.specs.Places.{truthOf, truthAt, valueOn}
-use Rattle.search.specs.Scan.{Rules, rules, rowOf, conditions, freeOf, meetOf, meets, begins, restOf, isAll, noteOf, scanFrom, scanOf}
+use Rattle.search.specs.Scan.{Rules, rules, rowOf, conditions, headConditions, headRest, weightedRest, rowRest, freeOf, meetOf, meets, begins, restOf, isAll, noteOf, scanFrom, scanOf}
 use Rattle.search.proofs.ScanLaws.{off-stays}
 use Rattle.search.proofs.Counts.{not-on, on-not}
-use Rattle.search.proofs.Agree.{litOn, litsOn, ruleOn, rule-all, all-rule}
+use Rattle.search.proofs.Agree.{litOn, litsOn, headOn, bodyOn, owed, ruleOn, rule-all, all-rule}
+use Rattle.search.specs.Weigh.{bothRest}
+use Rattle.search.proofs.Weighing.{owed-rises}
 use Rattle.search.proofs.TrailTables.{Valued, value-off}
 use Rattle.search.specs.Soft.{AssumedEntries, FormedSoft}
 use Rattle.search.specs.Branch.{NotedAs}
 use Rattle.search.proofs.Formed.{rule-in}
 use Rattle.search.proofs.Opens.{Undecided, zero-off, scan-undecided}
-use Rattle.search.proofs.Scans.{by, holds-by, true-on, conds-on, rule-on, ScanSays, scan-says}
+use Rattle.search.proofs.Conditions.{same-is, by, holds-by, true-on, conds-on, heads-on, meets-all}
+use Rattle.search.proofs.WeighLaws.{body-all, body-one, row-pairs, row-signed}
+use Rattle.search.proofs.Scans.{rule-on, ScanSays, scan-says}
 
 is-true : (b : Bool) → T b → b ≡ true
 is-true true t = refl
 is-true false t = absurd t
-
-same-is : (a b : ℤ) → sameℤ a b ≡ true → a ≡ b
-same-is (pos m) (pos n) q = ap pos (eqb-true m n q)
-same-is (pos m) (negsuc n) q = absurd (clash q)
-same-is (negsuc m) (pos n) q = absurd (clash q)
-same-is (negsuc m) (negsuc n) q = ap negsuc (eqb-true m n q)
 
 same-self : (a : ℤ) → sameℤ a a ≡ true
 same-self (pos n) = eq-eqb n n refl
@@ -75,7 +73,7 @@ module _ (t : Trail) (f : ℤ) where
   own-on : T (litOn u f)
   own-on = rw (litOn-by f, eq-eqb (natAbs f) (natAbs f) refl) (sign-own f)
 
-  more-on : (l : ℤ) → (¬ (natAbs l ≡ natAbs f)) → litOn u l ≡ litOn t l
+  pub more-on : (l : ℤ) → (¬ (natAbs l ≡ natAbs f)) → litOn u l ≡ litOn t l
   more-on l k = litOn-by l ∙ rw (ne-eqb (natAbs l) (natAbs f) k, holds-by (trailSet t) l)
 
   -- what is on it was on the trail, or is f
@@ -92,7 +90,7 @@ module _ (v : List ℕ) (t : Trail) (w : Valued v t) (f : ℤ) (o : NotOn (natAb
   free-f : truthAt v f ≡ 0
   free-f = rw (w (natAbs f), value-off t (natAbs f) o)
 
-  on-apart : (l : ℤ) → T (litOn t l) → ¬ (natAbs l ≡ natAbs f)
+  pub on-apart : (l : ℤ) → T (litOn t l) → ¬ (natAbs l ≡ natAbs f)
   on-apart l h e = on-not t (natAbs f) o (rw e at (and-yes (on t (natAbs l)) (holds (trailSet t) l) h .0))
 
   true-lit : (l : ℤ) → eqb (truthAt v l) 1 ≡ true → T (litOn t l)
@@ -120,7 +118,7 @@ module _ (v : List ℕ) (t : Trail) (w : Valued v t) (f : ℤ) (o : NotOn (natAb
   not-off ls e = let q : Off ≡ One f = sym (off-stays v ls) ∙ e in let z : _≡_ {A = ℕ} 0 1 = cc in omega arith
 
   -- where f alone is left, all conditions are on the trail with f added
-  one-on : (s : Rest) (ls : List ℤ) → meets v s ls ≡ One f → T (litsOn (decision f ∷ t) ls)
+  pub one-on : (s : Rest) (ls : List ℤ) → meets v s ls ≡ One f → T (litsOn (decision f ∷ t) ls)
   unfolding meets litsOn
   one-on s [] e = tt
   one-on s (l ∷ ls) e = yes-and (litOn (decision f ∷ t) l) (litsOn (decision f ∷ t) ls) (here (eqb (truthAt v l) 1) refl (eqb (truthAt v l) 0) s e) (one-on (meetOf v s l) ls e)
@@ -167,23 +165,89 @@ module _ (v : List ℕ) (t : Trail) (w : Valued v t) (f : ℤ) (o : NotOn (natAb
 -- ---- one rule of the tables
 
 module _ (n : ℕ) (pool : List ℤ) (x : Row) (r : RowIn pool x) (i : RuleIn n (ruleAt pool x)) (v : List ℕ) (t : Trail) (w : Valued v t) (f : ℤ) (o : NotOn (natAbs f) t) where
-  one-rule : meets v (begins (x .a)) (conditions pool x) ≡ One f → T (ruleOn (decision f ∷ t) (ruleAt pool x))
-  one-rule e = go (eqb (x .a) 1) refl e
-    where
-      go : (b : Bool) → eqb (x .a) 1 ≡ b → meets v (pick b Off All) (conditions pool x) ≡ One f → T (ruleOn (decision f ∷ t) (ruleAt pool x))
-      go true q e = absurd (not-off v t w f o (conditions pool x) e)
-      go false q e = rw (← conds-on (decision f ∷ t) n pool x r i q) (one-on v t w f o All (conditions pool x) e)
+  -- ---- no weighted body
 
-  rule-one : T (ruleOn (decision f ∷ t) (ruleAt pool x)) → ruleOn t (ruleAt pool x) ≡ false → meets v (begins (x .a)) (conditions pool x) ≡ One f
-  rule-one h k = go (eqb (x .a) 1) refl
-    where
-      fine : Fine v t w f o (meets v All (conditions pool x)) → eqb (x .a) 1 ≡ false → meets v All (conditions pool x) ≡ One f
-      fine (inr e) q = e
-      fine (inl e) q = absurd (clash (sym k ∙ sym (rule-on v t w n pool x r i) ∙ rw (q, e)))
+  module _ (u : isWeighted (x .a) ≡ false) where
+    one-normal : meets v (begins (x .a)) (conditions pool x) ≡ One f → T (ruleOn (decision f ∷ t) (ruleAt pool x))
+    one-normal e = go (isChoice (x .a)) refl e
+      where
+        go : (b : Bool) → isChoice (x .a) ≡ b → meets v (pick b Off All) (conditions pool x) ≡ One f → T (ruleOn (decision f ∷ t) (ruleAt pool x))
+        go true q e = absurd (not-off v t w f o (conditions pool x) e)
+        go false q e = rw (← conds-on (decision f ∷ t) n pool x r i q u) (one-on v t w f o All (conditions pool x) e)
 
-      go : (b : Bool) → eqb (x .a) 1 ≡ b → meets v (pick b Off All) (conditions pool x) ≡ One f
-      go true q = absurd (rw q at h)
-      go false q = fine (on-fine v t w f o All (conditions pool x) (inl refl) (rw (conds-on (decision f ∷ t) n pool x r i q) h)) q
+    rule-one : T (ruleOn (decision f ∷ t) (ruleAt pool x)) → ruleOn t (ruleAt pool x) ≡ false → rowRest pool v x ≡ One f
+    rule-one h k = rw u (go (isChoice (x .a)) refl)
+      where
+        fine : Fine v t w f o (meets v All (conditions pool x)) → isChoice (x .a) ≡ false → meets v All (conditions pool x) ≡ One f
+        fine (inr e) q = e
+        fine (inl e) q = absurd (clash (sym k ∙ sym (rule-on v t w n pool x r i) ∙ rw (u, q, e)))
+
+        go : (b : Bool) → isChoice (x .a) ≡ b → meets v (pick b Off All) (conditions pool x) ≡ One f
+        go true q = absurd (rw q at h)
+        go false q = fine (on-fine v t w f o All (conditions pool x) (inl refl) (rw (conds-on (decision f ∷ t) n pool x r i q u) h)) q
+
+  -- ---- order 2: a weighted body. What was on the trail stays there.
+
+  lits-more : (ls : List ℤ) → T (litsOn t ls) → T (litsOn (decision f ∷ t) ls)
+  unfolding litsOn
+  lits-more [] h = tt
+  lits-more (l ∷ ls) h =
+      let y = and-yes (litOn t l) (litsOn t ls) h in
+      yes-and (litOn (decision f ∷ t) l) (litsOn (decision f ∷ t) ls) (rw (more-on t f l (on-apart v t w f o l (y .0))) (y .0)) (lits-more ls (y .1))
+
+  module _ (u : isWeighted (x .a) ≡ true) where
+    abbrev pairs : List Weighed
+    pairs = pairsAt pool (x .d + 1) (x .b + x .c) (x .d)
+
+    head-stays : headRest pool v x ≡ All → T (headOn (decision f ∷ t) (headAt pool x))
+    head-stays e = go (isChoice (x .a)) refl e
+      where
+        go : (b : Bool) → isChoice (x .a) ≡ b → meets v (pick b Off All) (headConditions pool x) ≡ All → T (headOn (decision f ∷ t) (headAt pool x))
+        go true q e = absurd (let z : _≡_ {A = Rest} Off All = sym (off-stays v (headConditions pool x)) ∙ e in let y : _≡_ {A = ℕ} 0 1 = cc in omega arith)
+        go false q e = rw (← heads-on (decision f ∷ t) n pool x r i q) (lits-more (headConditions pool x) (rw (← meets-all v t w All (headConditions pool x), e) tt))
+
+    head-one : headRest pool v x ≡ One f → T (headOn (decision f ∷ t) (headAt pool x))
+    head-one e = go (isChoice (x .a)) refl e
+      where
+        go : (b : Bool) → isChoice (x .a) ≡ b → meets v (pick b Off All) (headConditions pool x) ≡ One f → T (headOn (decision f ∷ t) (headAt pool x))
+        go true q e = absurd (not-off v t w f o (headConditions pool x) e)
+        go false q e = rw (← heads-on (decision f ∷ t) n pool x r i q) (one-on v t w f o All (headConditions pool x) e)
+
+    abbrev bodyOn′ : Type 0
+    bodyOn′ = T (bodyOn (decision f ∷ t) (weighted (boundAt pool x) pairs))
+
+    body-one′ : In n (natAbs f) → weightedRest pool v x ≡ One f → bodyOn′
+    body-one′ j e = body-one n v t w (isMixed (x .a)) pairs (row-pairs n pool x i u) (row-signed pool x r u) (boundAt pool x) f e .2
+
+    body-stays : In n (natAbs f) → weightedRest pool v x ≡ All → bodyOn′
+    body-stays j e =
+        le→leb (boundAt pool x) (owed (decision f ∷ t) pairs)
+        (omega (arith, owed-rises n t f j o pairs (row-pairs n pool x i u), leb→le (boundAt pool x) (owed t pairs) (rw (← body-all n v t w (isMixed (x .a)) pairs (row-pairs n pool x i u) (row-signed pool x r u) (boundAt pool x), e) tt)))
+
+    one-weighted : In n (natAbs f) → bothRest (headRest pool v x) (weightedRest pool v x) ≡ One f → T (ruleOn (decision f ∷ t) (ruleAt pool x))
+    one-weighted j e = rw u (go (headRest pool v x) refl (weightedRest pool v x) refl e)
+      where
+        clashes : {s : Rest} → s ≡ One f → s ≡ Off → ⊥
+        clashes e f = let z : _≡_ {A = ℕ} 0 1 = cc in omega arith
+
+        on-it : T (headOn (decision f ∷ t) (headAt pool x)) → bodyOn′ → T (headOn (decision f ∷ t) (headAt pool x) && bodyOn (decision f ∷ t) (weighted (boundAt pool x) pairs))
+        on-it = yes-and (headOn (decision f ∷ t) (headAt pool x)) (bodyOn (decision f ∷ t) (weighted (boundAt pool x) pairs))
+
+        go : (a : Rest) → headRest pool v x ≡ a → (b : Rest) → weightedRest pool v x ≡ b → bothRest a b ≡ One f
+            → T (headOn (decision f ∷ t) (headAt pool x) && bodyOn (decision f ∷ t) (weighted (boundAt pool x) pairs))
+        go All p b q e = on-it (head-stays p) (body-one′ j (q ∙ e))
+        go (One k) p All q e = on-it (head-one (p ∙ e)) (body-stays j q)
+        go (One k) p (One m) q e = absurd (clashes e refl)
+        go (One k) p Off q e = absurd (clashes e refl)
+        go Off p b q e = absurd (clashes e refl)
+
+  one-rule : In n (natAbs f) → rowRest pool v x ≡ One f → T (ruleOn (decision f ∷ t) (ruleAt pool x))
+  one-rule j e = go (isWeighted (x .a)) refl e
+    where
+      go : (b : Bool) → isWeighted (x .a) ≡ b → pick b (bothRest (headRest pool v x) (weightedRest pool v x)) (meets v (begins (x .a)) (conditions pool x)) ≡ One f
+          → T (ruleOn (decision f ∷ t) (ruleAt pool x))
+      go true u e = one-weighted u j e
+      go false u e = one-normal u e
 
 -- ---- the scan
 
@@ -234,9 +298,9 @@ module _ (n : ℕ) (pool : List ℤ) (rows : List ℕ) (count : ℕ) (f : Formed
   abbrev pub Breaks : ℤ → ℕ → Type 0
   Breaks l r = InAll (decision l ∷ t) (λ M. T (brokenIn M (ruleAt pool (rowAt rows r))))
 
-  -- no undecided literal would break rule j
+  -- no undecided literal would break rule j, if its body is not weighted (of a weighted body a literal that stands twice may go unnoted)
   abbrev pub NoBreaker : ℕ → Type 0
-  NoBreaker j = (l : ℤ) → In n (natAbs l) → NotOn (natAbs l) t → ¬ Breaks l j
+  NoBreaker j = isWeighted (rowAt rows j .a) ≡ false → (l : ℤ) → In n (natAbs l) → NotOn (natAbs l) t → ¬ Breaks l j
 
   abbrev pub NotedSays : Found → Type 0
   NotedSays (Broken r) = Unit {0}
@@ -245,15 +309,15 @@ module _ (n : ℕ) (pool : List ℤ) (rows : List ℕ) (count : ℕ) (f : Formed
 
   -- a rule that is not broken, and leaves no literal alone
   no-breaker : (j : ℕ) → j < count → ruleOn t (ruleAt pool (rowAt rows j)) ≡ false → ((l : ℤ) → ¬ (restOf (rules pool rows count) v j ≡ One l)) → NoBreaker j
-  no-breaker j h b k l i o c =
-      k l (rule-one n pool (rowAt rows j) (f .row j h) (rule-in n pool rows count f j h) v t w l o
+  no-breaker j h b k u l i o c =
+      k l (rule-one n pool (rowAt rows j) (f .row j h) (rule-in n pool rows count f j h) v t w l o u
       (all-rule n (decision l ∷ t) (i, o, wf) (ruleAt pool (rowAt rows j)) (rule-in n pool rows count f j h) c) b)
 
   says-noted : (y : Found) → NotedAs (Undecided n v) y → ScanSays (λ (r : ℕ). ruleOn t (ruleAt pool (rowAt rows r))) count y → LeftSays (restOf (rules pool rows count) v) count y → NotedSays y
   says-noted (Broken r) u b h = tt
   says-noted (Breaker l) u b h =
       let o : NotOn (natAbs l) t = zero-off t (natAbs l) (sym (w (natAbs l)) ∙ u .1) in
-      let e = one-rule n pool (rowAt rows (h .0)) (f .row (h .0) (h .1)) (rule-in n pool rows count f (h .0) (h .1)) v t w l o (h .2) in (
+      let e = one-rule n pool (rowAt rows (h .0)) (f .row (h .0) (h .1)) (rule-in n pool rows count f (h .0) (h .1)) v t w l o (u .0) (h .2) in (
         h .0,
         h .1,
         u .0,

@@ -16,7 +16,7 @@ use Rattle.asp.specs.Literal.{sameℤ, isNegative}
 use Rattle.asp.specs.Program.{Rule, All}
 use Rattle.asp.specs.Penalty.{Penalty, penalty, penalties}
 use Rattle.asp.specs.Stable.{member, listed}
-use Rattle.asp.specs.Tables.{span, named, atomsAt, rowAt, plainHead, ruleAt, rulesOf, entryAt, entriesOf}
+use Rattle.asp.specs.Tables.{span, named, atomsAt, isChoice, isWeighted, rowAt, plainHead, ruleAt, rulesOf, entryAt, entriesOf}
 use Rattle.asp.proofs.Spans.{span-more, span-none, span-whole, span-at}
 use Rattle.asp.proofs.Rules.{head-choice}
 use Rattle.asp.proofs.Signed.{clash}
@@ -122,22 +122,31 @@ with-none : (X : Set) {xs : List ℕ} → length xs ≡ 1025 → ((a : ℕ) → 
 with-none X {xs} l n = record { long = l; each = λ a. rw (n a) (sym (or-false (setOf xs a))) }
 
 module _ (pool : List ℤ) (rows : List ℕ) (r : ℕ) where
-  pub rule-marked : {k f h b : ℕ} → k ≡ getD rows (r * 4) 0 → k ≡ 1 → f ≡ getD rows (r * 4 + 1) 0 → h ≡ getD rows (r * 4 + 2) 0 → b ≡ getD rows (r * 4 + 3) 0 → b ≡ 0 → {xs ys : List ℕ}
+  pub rule-marked : {k f h b : ℕ} {x y : Bool} → k ≡ getD rows (r * 4) 0 → x ≡ isWeighted k → x ≡ false → y ≡ isChoice k → y ≡ true → f ≡ getD rows (r * 4 + 1) 0 → h ≡ getD rows (r * 4 + 2) 0 → b ≡ getD rows (r * 4 + 3) 0 → b ≡ 0 → {xs ys : List ℕ}
       → With (listed (atomsAt pool f h)) xs ys → With (freelyChosenBy (ruleAt pool (rowAt rows r))) xs ys
   unfolding span
-  rule-marked ek q ef eh eb z s = rw (head-choice pool (rowAt rows r) (sym ek ∙ q), sym eb ∙ z) (rw (ef, eh) at s)
+  rule-marked ek ex p ey q ef eh eb z s =
+      let u : isWeighted (getD rows (r * 4) 0) ≡ false = rw (← ek, ← ex) p in
+      let c : isChoice (getD rows (r * 4) 0) ≡ true = rw (← ek, ← ey) q in
+      rw (head-choice pool (rowAt rows r) c, u, sym eb ∙ z) (rw (ef, eh) at s)
 
-  pub rule-bodied : {b : ℕ} → b ≡ getD rows (r * 4 + 3) 0 → (b ≡ 0 → ⊥) → {xs : List ℕ} → length xs ≡ 1025 → With (freelyChosenBy (ruleAt pool (rowAt rows r))) xs xs
+  pub rule-weighted : {k : ℕ} {x : Bool} → k ≡ getD rows (r * 4) 0 → x ≡ isWeighted k → x ≡ true → {xs : List ℕ} → length xs ≡ 1025 → With (freelyChosenBy (ruleAt pool (rowAt rows r))) xs xs
+  rule-weighted ek ex p l =
+      let u : isWeighted (getD rows (r * 4) 0) ≡ true = rw (← ek, ← ex) p in
+      with-none (freelyChosenBy (ruleAt pool (rowAt rows r))) l (λ a. rw u)
+
+  pub rule-bodied : {k b : ℕ} {x : Bool} → k ≡ getD rows (r * 4) 0 → x ≡ isWeighted k → x ≡ false → b ≡ getD rows (r * 4 + 3) 0 → (b ≡ 0 → ⊥) → {xs : List ℕ} → length xs ≡ 1025 → With (freelyChosenBy (ruleAt pool (rowAt rows r))) xs xs
   unfolding span
-  rule-bodied eb f l =
+  rule-bodied ek ex p eb f l =
+      let u : isWeighted (getD rows (r * 4) 0) ≡ false = rw (← ek, ← ex) p in
       let q : getD rows (r * 4 + 3) 0 ≡ suc (getD rows (r * 4 + 3) 0 - 1) = some (getD rows (r * 4 + 3) 0) (λ z. f (eb ∙ z)) in
-      with-none (freelyChosenBy (ruleAt pool (rowAt rows r))) l (λ a. rw q)
+      with-none (freelyChosenBy (ruleAt pool (rowAt rows r))) l (λ a. rw (u, q))
     where
       some : (c : ℕ) → (c ≡ 0 → ⊥) → c ≡ suc (c - 1)
       some c h = omega arith
 
-  pub rule-plain : {k : ℕ} → k ≡ getD rows (r * 4) 0 → (k ≡ 1 → ⊥) → {xs : List ℕ} → length xs ≡ 1025 → With (freelyChosenBy (ruleAt pool (rowAt rows r))) xs xs
-  rule-plain ek f l = with-none (freelyChosenBy (ruleAt pool (rowAt rows r))) l unchosen
+  pub rule-plain : {k : ℕ} {y : Bool} → k ≡ getD rows (r * 4) 0 → y ≡ isChoice k → y ≡ false → {xs : List ℕ} → length xs ≡ 1025 → With (freelyChosenBy (ruleAt pool (rowAt rows r))) xs xs
+  rule-plain ek ey q l = with-none (freelyChosenBy (ruleAt pool (rowAt rows r))) l unchosen
     where
       plain-none : (hs : List ℕ) (a : ℕ) → chosenBy (plainHead hs) a ≡ false
       plain-none [] a = refl
@@ -145,7 +154,8 @@ module _ (pool : List ℤ) (rows : List ℕ) (r : ℕ) where
 
       unchosen : (a : ℕ) → freelyChosenBy (ruleAt pool (rowAt rows r)) a ≡ false
       unchosen a =
-          rw (ne-eqb (getD rows (r * 4) 0) 1 (λ q. f (ek ∙ q)), plain-none (atomsAt pool (getD rows (r * 4 + 1) 0) (getD rows (r * 4 + 2) 0)) a)
+          let c : isChoice (getD rows (r * 4) 0) ≡ false = rw (← ek, ← ey) q in
+          rw (c, plain-none (atomsAt pool (getD rows (r * 4 + 1) 0) (getD rows (r * 4 + 2) 0)) a)
           (and-false (isBodiless (ruleAt pool (rowAt rows r) .body)))
 
 -- ---- the loop over the rules

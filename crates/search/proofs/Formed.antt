@@ -11,8 +11,8 @@ use lib.IntN.{ℤ, pos, negsuc, natAbs}
 use lib.ListN.{length, getD}
 use borrow.Author.Tests.{eqb-true, eqb-false, ltb-true, ltb-false}
 use Rattle.asp.specs.Sets.{In, pick}
-use Rattle.asp.specs.Program.{Literal, Head, constraint, plain, choice, Rule, All, LiteralIn, BodyIn, HeadIn, RuleIn}
-use Rattle.asp.specs.Tables.{span, literalsAt, named, atomsAt, Row, rowAt, plainHead, headAt, bodyAt, ruleAt, rulesOf, RowIn, Formed}
+use Rattle.asp.specs.Program.{Literal, Weighed, Body, normal, weighted, Head, constraint, plain, choice, Rule, All, LiteralIn, BodyIn, HeadIn, RuleIn}
+use Rattle.asp.specs.Tables.{span, literalsAt, named, atomsAt, isChoice, isWeighted, pairAt, pairsAt, boundAt, Row, rowAt, plainHead, headAt, bodyAt, ruleAt, rulesOf, RowIn, Formed}
 use Rattle.search.specs.Scan.{rules, rowOf, Readable}
 use Rattle.search.specs.Soft.{AssumedEntries, wishedAt, ReadableWishes, ReadableSoft, FormedSoft}
 
@@ -44,21 +44,26 @@ module _ (n : ℕ) (pool : List ℤ) (w : Row) (r : RowIn pool w) (i : RuleIn n 
   plain-in (suc (suc c)) l h k a b = absurd (omega arith)
 
   head-place : (k : ℕ) → w .b ≤ k → k < w .b + w .c → In n (named (getD pool k (pos 0)))
-  head-place k a b = go (eqb (w .a) 1) refl (i .0)
+  head-place k a b = go (isChoice (w .a)) refl (i .0)
     where
-      go : (x : Bool) → eqb (w .a) 1 ≡ x → HeadIn n (pick x (choice (atomsAt pool (w .b) (w .c))) (plainHead (atomsAt pool (w .b) (w .c)))) → In n (named (getD pool k (pos 0)))
+      go : (x : Bool) → isChoice (w .a) ≡ x → HeadIn n (pick x (choice (atomsAt pool (w .b) (w .c))) (plainHead (atomsAt pool (w .b) (w .c)))) → In n (named (getD pool k (pos 0)))
       go true e h = all-span (In n) (λ (j : ℕ). named (getD pool j (pos 0))) (w .b) (w .c) h k a b
-      go false e h = plain-in (w .c) (r .single (eqb-false (w .a) 1 e)) h k a b
+      go false e h = plain-in (w .c) (r .single e) h k a b
 
   pub place-atom : (k : ℕ) → w .b ≤ k → k < w .b + w .c + w .d → In n (natAbs (getD pool k (pos 0)))
   place-atom k a b = go (ltb k (w .b + w .c)) refl
     where
       go : (x : Bool) → ltb k (w .b + w .c) ≡ x → In n (natAbs (getD pool k (pos 0)))
       go true e = named-in n (getD pool k (pos 0)) (head-place k a (ltb-true k (w .b + w .c) e))
-      go false e = all-span (LiteralIn n) (λ (j : ℕ). getD pool j (pos 0)) (w .b + w .c) (w .d) (i .1) k (ltb-false k (w .b + w .c) e) (omega arith)
+      go false e = body-place (isWeighted (w .a)) (i .1) (ltb-false k (w .b + w .c) e)
+        where
+          body-place : (y : Bool) → BodyIn n (pick y (weighted (boundAt pool w) (pairsAt pool (w .d + 1) (w .b + w .c) (w .d))) (normal (literalsAt pool (w .b + w .c) (w .d)))) → w .b + w .c ≤ k
+              → In n (natAbs (getD pool k (pos 0)))
+          body-place true h m = all-span (λ (p : Weighed). LiteralIn n (p .literal)) (pairAt pool (w .d + 1)) (w .b + w .c) (w .d) h k m (omega arith)
+          body-place false h m = all-span (LiteralIn n) (λ (j : ℕ). getD pool j (pos 0)) (w .b + w .c) (w .d) h k m (omega arith)
 
   -- the head atom of a plain rule that has one
-  pub plain-head : (eqb (w .a) 1 ≡ false) → w .c ≡ 1 → pos (named (getD pool (w .b) (pos 0))) ≡ getD pool (w .b) (pos 0)
+  pub plain-head : isChoice (w .a) ≡ false → w .c ≡ 1 → pos (named (getD pool (w .b) (pos 0))) ≡ getD pool (w .b) (pos 0)
   plain-head e q = named-is n (getD pool (w .b) (pos 0)) (head-place (w .b) (omega arith) (omega arith))
 
 module _ (n : ℕ) (pool : List ℤ) (rows : List ℕ) (count : ℕ) (f : Formed n pool rows count) where
@@ -73,6 +78,8 @@ module _ (n : ℕ) (pool : List ℤ) (rows : List ℕ) (count : ℕ) (f : Formed
   readable = record {
     long = f .long;
     inside = λ r h. f .row r h .inside;
+    single = λ r h e. f .row r h .single e;
+    weighed = λ r h e. f .row r h .weighed e;
     small = λ r h k a b. omega (arith, f .few, atom-in r h k a b .1);
   }
 

@@ -10,11 +10,16 @@ pub mod Counts
 pub mod Spent
 pub mod Search
 pub mod Blamed
+pub mod Totals
 pub mod Agree
+pub mod Weighing
 pub mod Unbroken
 pub mod TrailTables
-pub mod Scans
 pub mod Opens
+pub mod Conditions
+pub mod WeighCode
+pub mod WeighLaws
+pub mod Scans
 pub mod Breakers
 pub mod Steps
 pub mod Kept

@@ -9,7 +9,7 @@ use lib.IntN.{pos}
 use lib.ListN.{length}
 use Rattle.asp.specs.Sets.{Set, setOf}
 use Rattle.asp.specs.Literal.{sameℤ}
-use Rattle.asp.specs.Program.{Body, normal, Head, constraint, plain, choice, Rule}
+use Rattle.asp.specs.Program.{Body, normal, weighted, Head, constraint, plain, choice, Rule}
 use Rattle.asp.specs.Penalty.{Penalty}
 use Rattle.asp.specs.Stable.{member}
 
@@ -17,6 +17,7 @@ use Rattle.asp.specs.Stable.{member}
 abbrev pub isBodiless : Body → Bool
 isBodiless (normal []) = true
 isBodiless (normal (l ∷ ls)) = false
+isBodiless (weighted b ps) = false
 
 -- the atoms of a choice
 abbrev pub chosenBy : Head → Set

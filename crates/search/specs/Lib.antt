@@ -2,6 +2,7 @@ pub mod Trail
 pub mod Query
 pub mod Machine
 pub mod Places
+pub mod Weigh
 pub mod Scan
 pub mod Soft
 pub mod First

@@ -1,5 +1,6 @@
 -- The scan of the rules under the values of a trail. Document 01: "In the test for failure the scan over rules and their literals is left at the first
 -- broken rule." On the way it notes the first literal that would break a rule if added: document 01 leaves that free; docs/DECISIONS.md says why this one. Assumes nothing: these are definitions.
+use mathlib.Core.Path.{_≡_}
 use mathlib.Core.Bool.{Bool, true, false}
 use mathlib.Core.List.{List, [], _∷_}
 use Prim.Native.Nat.{ℕ, zero, suc, _+_, _*_, _<_, _≤_}
@@ -8,8 +9,9 @@ use lib.IntN.{ℤ, pos, negℤ, natAbs}
 use lib.ListN.{length, getD}
 use Rattle.asp.specs.Sets.{pick}
 use Rattle.asp.specs.Literal.{sameℤ}
-use Rattle.asp.specs.Tables.{span, Row, rowAt}
+use Rattle.asp.specs.Tables.{span, isChoice, isWeighted, isMixed, pairsAt, boundAt, Row, rowAt}
 use Rattle.search.specs.Places.{truthOf}
+use Rattle.search.specs.Weigh.{bodyRest, bothRest}
 use Rattle.search.specs.declared.scan.Rest.{Rest}
 use Rattle.search.specs.declared.scan.Rest.the-variants.{All, One, Off}
 use Rattle.search.specs.declared.scan.Found.{Found}
@@ -55,12 +57,25 @@ unfoldable pub meets : List ℕ → Rest → List ℤ → Rest
 meets value s [] = s
 meets value s (l ∷ ls) = meets value (meetOf value s l) ls
 
--- a choice rule, of kind 1, has no conditions that could all be true
+-- a choice rule has no conditions that could all be true
 abbrev pub begins : ℕ → Rest
-begins kind = pick (eqb kind 1) Off All
+begins kind = pick (isChoice kind) Off All
+
+-- order 2: the conditions of a head alone, and what is left of a weighted body
+abbrev pub headConditions : List ℤ → Row → List ℤ
+headConditions pool w = span (condAt pool (w .b + w .c)) (w .b) (w .c)
+
+abbrev pub headRest : List ℤ → List ℕ → Row → Rest
+headRest pool value w = meets value (begins (w .a)) (headConditions pool w)
+
+abbrev pub weightedRest : List ℤ → List ℕ → Row → Rest
+weightedRest pool value w = bodyRest (isMixed (w .a)) value (boundAt pool w) (pairsAt pool (w .d + 1) (w .b + w .c) (w .d))
+
+abbrev pub rowRest : List ℤ → List ℕ → Row → Rest
+rowRest pool value w = pick (isWeighted (w .a)) (bothRest (headRest pool value w) (weightedRest pool value w)) (meets value (begins (w .a)) (conditions pool w))
 
 abbrev pub restOf : Rules → List ℕ → ℕ → Rest
-restOf g value r = meets value (begins (rowOf g r .a)) (conditions (g .pool) (rowOf g r))
+restOf g value r = rowRest (g .pool) value (rowOf g r)
 
 -- ---- the rules
 
@@ -89,4 +104,6 @@ scanOf g value = scanFrom (restOf g value) Clear 0 (g .count)
 pub record Readable (g : Rules) : Type 0 where
   pub long : g .count * 4 ≤ length (g .rows)
   pub inside : (r : ℕ) → r < g .count → rowOf g r .b + rowOf g r .c + rowOf g r .d ≤ length (g .pool)
+  pub single : (r : ℕ) → r < g .count → isChoice (rowOf g r .a) ≡ false → rowOf g r .c ≤ 1
+  pub weighed : (r : ℕ) → r < g .count → isWeighted (rowOf g r .a) ≡ true → rowOf g r .b + rowOf g r .c + rowOf g r .d + 1 + rowOf g r .d ≤ length (g .pool)
   pub small : (r : ℕ) → r < g .count → (k : ℕ) → rowOf g r .b ≤ k → k < rowOf g r .b + rowOf g r .c + rowOf g r .d → natAbs (getD (g .pool) k (pos 0)) ≤ 1024

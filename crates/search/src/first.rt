@@ -42,10 +42,14 @@ fn choose_rule<'a>(pool: &'a [i32], rows: &'a [u16], r: usize, tried: &mut [u8; 
     let first = table::number_at(rows, at + 1);
     let heads = table::number_at(rows, at + 2);
     let body = table::number_at(rows, at + 3);
-    if kind == 1 {
-        if body == 0 {
-            choose(pool, first, heads, tried);
-        }
+    if table::is_weighted(kind) {
+        return;
+    }
+    if !table::is_choice(kind) {
+        return;
+    }
+    if body == 0 {
+        choose(pool, first, heads, tried);
     }
 }
 

@@ -10,3 +10,4 @@ pub mod soft;
 pub mod step;
 pub mod trail;
 pub mod value;
+pub mod weigh;

@@ -6,7 +6,6 @@ ghost use Prim.Native.Nat.{ℕ, _<_, _≤_};
 ghost use lib.ListN.{length, getD};
 ghost use lib.IntN.{pos, natAbs};
 ghost use Rattle.asp.specs.Sets.{setOf};
-ghost use Rattle.search.specs.Places.{truthAt};
 ghost use Rattle.search.specs.Soft.{assumedEntries, ReadableWishes, ReadableSoft, firstOf, violatedOf, wishOf};
 
 // Which one is violated on a trail.
@@ -19,15 +18,6 @@ pub enum Violation {
 pub enum Wish {
     For(i32),
     Decided,
-}
-
-// What the one at i is: 0 undecided, 1 met, 2 violated.
-fn judged<'a>(wished: &'a [i32], i: usize, value: &'a [u8; 1025]) -> u8
-    requires { ⌜ i < length (now wished) ⌝ }
-    requires { ⌜ natAbs (getD (now wished) i (pos 0)) ≤ 1024 ⌝ }
-    ensures { λ r. ⌜ r ≡ truthAt (now (value .entry)) (getD (now (wished .entry)) i (pos 0)) ⌝ }
-{
-    value::truth(value, table::literal_at(wished, i))
 }
 
 fn first_of(found: Violation, i: usize) -> Violation
@@ -53,7 +43,7 @@ pub fn violated<'a>(
     let mut found = Violation::Unviolated;
     let mut i: usize = 0;
     while i < count {
-        if judged(wished, i, value) != 2 {
+        if value::truth_at(wished, i, value) != 2 {
             i += 1;
             continue;
         }
@@ -73,7 +63,7 @@ pub fn undecided<'a>(wished: &'a [i32], count: usize, value: &'a [u8; 1025]) -> 
 {
     let mut i: usize = 0;
     while i < count {
-        if judged(wished, i, value) == 0 {
+        if value::truth_at(wished, i, value) == 0 {
             return Wish::For(table::literal_at(wished, i));
         }
         i += 1;

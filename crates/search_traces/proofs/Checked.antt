@@ -1,6 +1,6 @@
 -- A test that computes whether stored tables are well formed, and that it is right. Assumes nothing.
 use mathlib.Core.Path.{_≡_, refl}
-use mathlib.Core.Bool.{Bool, true, false, _&&_, _||_}
+use mathlib.Core.Bool.{Bool, true, false, _&&_, _||_, Bool·beq, not}
 use mathlib.Core.List.{List, [], _∷_}
 use mathlib.Core.Logic.{_⊎_, inl, inr, ⊎-elim}
 use Prim.Native.Nat.{ℕ, zero, suc, _+_, _*_, _≤_, _<_}
@@ -11,8 +11,9 @@ use lib.ListN.{length, getD}
 use mir.Facts.{and-yes, or-yes, eqb-yes}
 use borrow.Author.Tests.{eqb-true, eqb-false}
 use Rattle.asp.specs.Sets.{In}
-use Rattle.asp.specs.Program.{Literal, Body, normal, Head, constraint, plain, choice, Rule, All, LiteralIn, BodyIn, HeadIn, RuleIn}
-use Rattle.asp.specs.Tables.{span, Row, rowAt, ruleAt, rulesOf, RowIn, Formed}
+use Rattle.asp.specs.Program.{Literal, Weighed, Body, normal, weighted, Head, constraint, plain, choice, Rule, All, LiteralIn, BodyIn, HeadIn, RuleIn}
+use Rattle.asp.specs.Literal.{oneSigned}
+use Rattle.asp.specs.Tables.{span, literalsAt, isChoice, isWeighted, isMixed, Row, rowAt, ruleAt, rulesOf, RowIn, Formed}
 use Rattle.search.specs.Scan.{rules}
 use Rattle.counting.specs.Counts.{sumFrom}
 use Rattle.indexing.specs.Sorting.{Readied}
@@ -64,11 +65,21 @@ head-ok n constraint t = tt
 head-ok n (plain a) t = atom-in n a t
 head-ok n (choice as′) t = atoms-in n as′ t
 
+abbrev pub pairsIn : ℕ → List Weighed → Bool
+pairsIn n [] = true
+pairsIn n (p ∷ ps) = atomIn n (natAbs (p .literal)) && pairsIn n ps
+
+pairs-in : (n : ℕ) (ps : List Weighed) → T (pairsIn n ps) → All (λ (p : Weighed). LiteralIn n (p .literal)) ps
+pairs-in n [] t = tt
+pairs-in n (p ∷ ps) t = let h = and-yes (atomIn n (natAbs (p .literal))) (pairsIn n ps) t in (atom-in n (natAbs (p .literal)) (h .0), pairs-in n ps (h .1))
+
 abbrev pub bodyOk : ℕ → Body → Bool
 bodyOk n (normal ls) = litsIn n ls
+bodyOk n (weighted b ps) = pairsIn n ps
 
 body-ok : (n : ℕ) (b : Body) → T (bodyOk n b) → BodyIn n b
 body-ok n (normal ls) t = lits-in n ls t
+body-ok n (weighted b ps) t = pairs-in n ps t
 
 abbrev pub rulesOk : ℕ → List Rule → Bool
 rulesOk n [] = true
@@ -81,16 +92,34 @@ rules-ok n (r ∷ rs) t =
     let g = and-yes (headOk n (r .head)) (bodyOk n (r .body)) (h .0) in
     ((head-ok n (r .head) (g .0), body-ok n (r .body) (g .1)), rules-ok n rs (h .1))
 
+-- order 2: the weights are inside, and the kind says truly whether an atom has both signs
+abbrev pub weighedOk : List ℤ → Row → Bool → Bool
+weighedOk pool w true = leb (w .b + w .c + w .d + 1 + w .d) (length pool) && Bool·beq (isMixed (w .a)) (not (oneSigned (literalsAt pool (w .b + w .c) (w .d))))
+weighedOk pool w false = true
+
 abbrev pub rowOk : List ℤ → Row → Bool
-rowOk pool w = leb (w .b + w .c + w .d) (length pool) && (eqb (w .a) 1 || leb (w .c) 1)
+rowOk pool w = leb (w .b + w .c + w .d) (length pool) && ((isChoice (w .a) || leb (w .c) 1) && weighedOk pool w (isWeighted (w .a)))
 
 row-ok : (pool : List ℤ) (w : Row) → T (rowOk pool w) → RowIn pool w
 row-ok pool w t =
-    let h = and-yes (leb (w .b + w .c + w .d) (length pool)) (eqb (w .a) 1 || leb (w .c) 1) t in
+    let h = and-yes (leb (w .b + w .c + w .d) (length pool)) ((isChoice (w .a) || leb (w .c) 1) && weighedOk pool w (isWeighted (w .a))) t in
+    let g = and-yes (isChoice (w .a) || leb (w .c) 1) (weighedOk pool w (isWeighted (w .a))) (h .1) in
     record {
       inside = leb→le (w .b + w .c + w .d) (length pool) (h .0);
-      single = λ k. ⊎-elim (λ e. absurd (k (eqb-yes e))) (λ l. leb→le (w .c) 1 l) (or-yes (eqb (w .a) 1) (leb (w .c) 1) (h .1));
+      single = λ k. ⊎-elim (λ e. absurd (rw k at e)) (λ l. leb→le (w .c) 1 l) (or-yes (isChoice (w .a)) (leb (w .c) 1) (g .0));
+      weighed = λ e. leb→le (w .b + w .c + w .d + 1 + w .d) (length pool) (both e (g .1) .0);
+      signed = λ e. same-is (isMixed (w .a)) (not (oneSigned (literalsAt pool (w .b + w .c) (w .d)))) (both e (g .1) .1);
     }
+  where
+    both : isWeighted (w .a) ≡ true → T (weighedOk pool w (isWeighted (w .a)))
+        → T (leb (w .b + w .c + w .d + 1 + w .d) (length pool)) × T (Bool·beq (isMixed (w .a)) (not (oneSigned (literalsAt pool (w .b + w .c) (w .d)))))
+    both e g = and-yes (leb (w .b + w .c + w .d + 1 + w .d) (length pool)) (Bool·beq (isMixed (w .a)) (not (oneSigned (literalsAt pool (w .b + w .c) (w .d))))) (rw e at g)
+
+    same-is : (x y : Bool) → T (Bool·beq x y) → x ≡ y
+    same-is true true t = refl
+    same-is true false t = absurd t
+    same-is false true t = absurd t
+    same-is false false t = refl
 
 abbrev pub formedOk : ℕ → List ℤ → List ℕ → ℕ → Bool
 formedOk n pool rows count =

@@ -1,10 +1,16 @@
 -- `asp::stable::add_rule` meets its contract.
 -- Assumes nothing.
 use borrow.Author.Tests.{not-true, not-false}
-use Rattle.asp.proofs.Rules.{body-inside, body-atoms, head-inside, choice-atoms, plain-atom, plain-inside, plain-small, rule-unmet, rule-choice, rule-none, rule-plain}
+use Rattle.asp.proofs.Rules.{head-inside, choice-atoms, plain-atom, plain-inside, plain-small, rule-unmet, rule-choice, rule-none, rule-plain}
 use borrow.Author.Needs.{needs}
 use Rattle.asp.proofs.stable.add_rule.Statement.{statement}
 use Rattle.asp.proofs.stable.add_rule.Tie as tie
+
+body-holds-requires : tie.Need-body-holds-requires
+body-holds-requires c κs = search needs
+
+returns : tie.Need-returns
+returns c = search (rule-unmet, not-true, needs)
 
 mul-at : tie.Need-mul-at
 mul-at c = search needs
@@ -24,20 +30,8 @@ add-number-at-2 c = search needs
 number-at-requires-3 : tie.Need-number-at-requires-3
 number-at-requires-3 c κs = search needs
 
-add-number-at-3 : tie.Need-add-number-at-3
-add-number-at-3 c = search needs
-
-number-at-requires-4 : tie.Need-number-at-requires-4
-number-at-requires-4 c κs = search needs
-
-add-all-hold : tie.Need-add-all-hold
-add-all-hold c = search needs
-
-all-hold-requires : tie.Need-all-hold-requires
-all-hold-requires c κs = (search (body-inside, needs), search (body-atoms, needs), search needs, search needs)
-
-returns : tie.Need-returns
-returns c = search (rule-unmet, not-true, needs)
+is-choice-requires : tie.Need-is-choice-requires
+is-choice-requires c κs = search needs
 
 add-choice-requires : tie.Need-add-choice-requires
 add-choice-requires c κs = (search (head-inside, needs), search (choice-atoms, needs), search needs, search needs)
@@ -61,17 +55,15 @@ pub add-rule-spec : {M : Type 1} → statement M
 add-rule-spec =
     tie.close
     (tie.spec
+    body-holds-requires
+    returns
     mul-at
     number-at-requires
     add-number-at
     number-at-requires-2
     add-number-at-2
     number-at-requires-3
-    add-number-at-3
-    number-at-requires-4
-    add-all-hold
-    all-hold-requires
-    returns
+    is-choice-requires
     add-choice-requires
     returns-2
     returns-3

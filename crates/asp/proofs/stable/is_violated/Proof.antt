@@ -1,6 +1,6 @@
 -- `asp::stable::is_violated` meets its contract.
 -- Assumes nothing.
-use Rattle.asp.proofs.Rules.{body-inside, body-atoms, choice-unviolated, plain-unviolated, constraint-violated}
+use Rattle.asp.proofs.Rules.{choice-unviolated, plain-unviolated, constraint-violated}
 use borrow.Author.Needs.{needs}
 use Rattle.asp.proofs.stable.is_violated.Statement.{statement}
 use Rattle.asp.proofs.stable.is_violated.Tie as tie
@@ -17,26 +17,14 @@ add-number-at c = search needs
 number-at-requires-2 : tie.Need-number-at-requires-2
 number-at-requires-2 c κs = search needs
 
-add-number-at-2 : tie.Need-add-number-at-2
-add-number-at-2 c = search needs
-
-number-at-requires-3 : tie.Need-number-at-requires-3
-number-at-requires-3 c κs = search needs
-
-add-number-at-3 : tie.Need-add-number-at-3
-add-number-at-3 c = search needs
-
-number-at-requires-4 : tie.Need-number-at-requires-4
-number-at-requires-4 c κs = search needs
+is-choice-requires : tie.Need-is-choice-requires
+is-choice-requires c κs = search needs
 
 returns : tie.Need-returns
 returns c = search (choice-unviolated, needs)
 
-add-all-hold : tie.Need-add-all-hold
-add-all-hold c = search needs
-
-all-hold-requires : tie.Need-all-hold-requires
-all-hold-requires c κs = (search (body-inside, needs), search (body-atoms, needs), search needs, search needs)
+body-holds-requires : tie.Need-body-holds-requires
+body-holds-requires c κs = search needs
 
 returns-2 : tie.Need-returns-2
 returns-2 c = search (constraint-violated, needs)
@@ -52,12 +40,8 @@ is-violated-spec =
     number-at-requires
     add-number-at
     number-at-requires-2
-    add-number-at-2
-    number-at-requires-3
-    add-number-at-3
-    number-at-requires-4
+    is-choice-requires
     returns
-    add-all-hold
-    all-hold-requires
+    body-holds-requires
     returns-2
     returns-3)

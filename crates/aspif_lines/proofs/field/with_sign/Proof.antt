@@ -24,7 +24,7 @@ cast-z : tie.Need-cast-z
 cast-z c = search needs
 
 sub-result : tie.Need-sub-result
-sub-result c = rw (negated (c .before .args .v) (c .before .pre)) (signed-fits (negℤ (pos (c .before .args .v))) (small (c .before .args .v) (c .before .pre)))
+sub-result c = rw (negated (c .before .args .v) (c .before .pre)) (signed-fits (negℤ (pos (c .before .args .v))) (omega (arith, small (c .before .args .v) (c .before .pre))))
 
 returns : tie.Need-returns
 returns c = rw (c .if1 .taken, negated (c .before .args .v) (c .before .pre)) (back (negℤ (pos (c .before .args .v))) (small (c .before .args .v) (c .before .pre)))

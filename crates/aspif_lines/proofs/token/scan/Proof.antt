@@ -12,9 +12,9 @@ use Rattle.aspif_lines.proofs.token.scan.Tie as tie
 
 abbrev Inv-loop : tie.InvT-loop
 Inv-loop s at i₀ v₀ i v =
-    (v ≤ 1000001)
+    (v ≤ 1000000001)
     × (i + length (digits (drop i s)) ≡ at + length (digits (drop at s)))
-    × (min 1000001 (decimal v (digits (drop i s))) ≡ min 1000001 (decimal 0 (digits (drop at s))))
+    × (min 1000000001 (decimal v (digits (drop i s))) ≡ min 1000000001 (decimal 0 (digits (drop at s))))
 
 abbrev μ-loop : tie.MeasureT-loop
 μ-loop s at i₀ v₀ i v = length s - i
@@ -51,7 +51,7 @@ loop-again : tie.Need-loop-again Inv-loop μ-loop
 unfolding decimal
 loop-again c =
     let inv = rw (digits-more _ _ (here (c .before .before))) at (c .before .before .before .before .before .loop .inv) in
-    let v = c .push .ensures ∙ ap (λ (b : ℕ). min 1000001 (c .before .before .before .before .before .loop .v * 10 + (b - 48))) (c .before .byte-at2 .ensures) in
+    let v = c .push .ensures ∙ ap (λ (b : ℕ). min 1000000001 (c .before .before .before .before .before .loop .v * 10 + (b - 48))) (c .before .byte-at2 .ensures) in
     (omega arith, omega (arith, inv .1), rw (v, cut) (inv .2))
 
 returns : tie.Need-returns Inv-loop μ-loop

@@ -1,6 +1,6 @@
 -- `optimizer::query::run_lent` meets its contract.
 -- Assumes nothing.
-use Rattle.indexing.proofs.Moving.{lists-indexed, lists-long, equipped, sound-small-values}
+use Rattle.indexing.proofs.Moving.{lists-indexed, lists-readable, equipped, sound-small-values}
 use borrow.Author.Needs.{needs}
 use Rattle.optimizer.proofs.query.run_lent.Statement.{statement}
 use Rattle.optimizer.proofs.query.run_lent.Tie as tie
@@ -8,7 +8,7 @@ use Rattle.optimizer.proofs.query.run_lent.Tie as tie
 fill-requires : tie.Need-fill-requires
 fill-requires c κs =
     let a = c .before .before .before .before .before .before .before .before .before .before .before .before .before .before in
-    (lists-indexed (a .pre .1 .1 .1 .lists), (lists-long (a .pre .1 .1 .1 .lists), search needs, sound-small-values (a .pre .1 .1 .0)))
+    (lists-indexed (a .pre .1 .1 .1 .lists), (lists-readable (a .pre .1 .1 .1 .lists), search needs, sound-small-values (a .pre .1 .1 .0)))
 
 turns-requires : tie.Need-turns-requires
 turns-requires c κs =

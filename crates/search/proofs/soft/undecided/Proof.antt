@@ -15,8 +15,8 @@ abbrev μ-loop : tie.MeasureT-loop
 loop-holds : tie.Need-loop-holds Inv-loop μ-loop
 loop-holds c = search (passed-start, needs)
 
-judged-requires : tie.Need-judged-requires Inv-loop μ-loop
-judged-requires c κs = (search (wished-in, needs), search (wished-small, needs))
+truth-at-requires : tie.Need-truth-at-requires Inv-loop μ-loop
+truth-at-requires c κs = (search (wished-in, needs), search (wished-small, needs))
 
 literal-at-requires : tie.Need-literal-at-requires Inv-loop μ-loop
 literal-at-requires c κs = search (wished-in, needs)
@@ -43,7 +43,7 @@ undecided-spec =
     Inv-loop
     μ-loop
     loop-holds
-    judged-requires
+    truth-at-requires
     literal-at-requires
     returns
     add-i

@@ -17,8 +17,8 @@ abbrev μ-loop : tie.MeasureT-loop
 loop-holds : tie.Need-loop-holds Inv-loop μ-loop
 loop-holds c = search (seen-start, needs)
 
-judged-requires : tie.Need-judged-requires Inv-loop μ-loop
-judged-requires c κs = (search (wished-in, needs), search (wished-small, needs))
+truth-at-requires : tie.Need-truth-at-requires Inv-loop μ-loop
+truth-at-requires c κs = (search (wished-in, needs), search (wished-small, needs))
 
 add-i : tie.Need-add-i Inv-loop μ-loop
 add-i c = search needs
@@ -45,7 +45,7 @@ loop-less-2 : tie.Need-loop-less-2 Inv-loop μ-loop
 loop-less-2 c = search needs
 
 loop-again-2 : tie.Need-loop-again-2 Inv-loop μ-loop
-loop-again-2 c = seen-new (c .before .before .before .before .before .before .loop .inv) (c .before .before .before .before .before .loop-test .taken) (c .before .before .before .before .judged .ensures) (c .before .before .before .if1 .left) (c .before .if2 .left) (c .first-of .ensures)
+loop-again-2 c = seen-new (c .before .before .before .before .before .before .loop .inv) (c .before .before .before .before .before .loop-test .taken) (c .before .before .before .before .truth-at .ensures) (c .before .before .before .if1 .left) (c .before .if2 .left) (c .first-of .ensures)
 
 returns-2 : tie.Need-returns-2 Inv-loop μ-loop
 returns-2 c = search (seen-all, needs)
@@ -57,7 +57,7 @@ violated-spec =
     Inv-loop
     μ-loop
     loop-holds
-    judged-requires
+    truth-at-requires
     add-i
     loop-less
     loop-again

@@ -7,7 +7,7 @@ use Rattle.search.specs.Places.{places}
 use Rattle.search.specs.Scan.{rules}
 use Rattle.search.proofs.Kept.{after-fresh}
 use Rattle.counting.specs.Counters.{index, counters}
-use Rattle.indexing.proofs.Moving.{lists-indexed, lists-long, sound-small-values}
+use Rattle.indexing.proofs.Moving.{lists-indexed, lists-readable, sound-small-values}
 use Rattle.search_traces.specs.Stored.{Running}
 use Rattle.search_traces.proofs.Laws.{runs-fresh, soft-formed}
 use borrow.Author.Needs.{needs}
@@ -24,7 +24,7 @@ fresh-requires : tie.Need-fresh-requires Inv-loop μ-loop
 fresh-requires c κs = search needs
 
 fill-requires : tie.Need-fill-requires Inv-loop μ-loop
-fill-requires c κs = let x = c .before .before .before .before .before .before .before .before .before .before .before .before .pre .1 .1 in (lists-indexed x, (lists-long x, search needs, sound-small-values (after-fresh 0 (c .before .before .before .before .before .fresh .ensures))))
+fill-requires c κs = let x = c .before .before .before .before .before .before .before .before .before .before .before .before .pre .1 .1 in (lists-indexed x, (lists-readable x, search needs, sound-small-values (after-fresh 0 (c .before .before .before .before .before .fresh .ensures))))
 
 loop-holds : tie.Need-loop-holds Inv-loop μ-loop
 loop-holds c = (runs-fresh (c .before .before .before .before .before .before .fresh .ensures) (c .before .before .before .before .before .before .before .before .before .before .before .before .before .pre .1 .1) (c .fill .ensures), refl)
