@@ -59,7 +59,8 @@ def heard(numbers):
 
 def some_sum(r, literal):
     """A made-up weighted body: weights of 0 and up, literals twice or with both signs; bounds of 0, that are just reached or just not, and far off."""
-    weight = lambda scale=r.choice(((1,), (1, 1, 2), (0, 1, 2, 3), (1, 2, 5, 9), (0, 1, 1000, 999999, 1000000))): r.choice(scale)
+    scale = r.choice(((1,), (1, 1, 2), (0, 1, 2, 3), (1, 2, 5, 9), (0, 1, 1000, 999999, 1000000)))
+    weight = lambda: r.choice(scale)
     pairs = [(literal(), weight()) for _ in range(r.choice((0, 1, 2, 2, 3, 3, 4, 5, 7)))]
     for _ in range(r.choice((0, 0, 1, 2)) if pairs else 0):
         pairs.insert(r.randint(0, len(pairs)), (r.choice((1, -1)) * r.choice(pairs)[0], weight()))
