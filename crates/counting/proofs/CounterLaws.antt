@@ -6,12 +6,12 @@ use Prim.Native.Nat.{ℕ, zero, suc, _+_, _-_, _*_, _≤_, _<_}
 use native.Mathlib.Omega.{arith}
 use lib.Dec.{eqb, ltb}
 use lib.ListN.{length, getD, set, length-set}
-use borrow.Author.Tests.{lt-ltb, le-ltb, eq-eqb, ne-eqb}
+use borrow.Author.Tests.{lt-ltb, le-ltb, ltb-false, eq-eqb, ne-eqb}
 use Rattle.asp.specs.Sets.{pick}
 use Rattle.counting.specs.declared.counters.Marks.{Marks}
 use Rattle.counting.specs.declared.counters.Index.{Index}
 use Rattle.counting.specs.Moves.{RowReadable, ListReadable}
-use Rattle.counting.specs.Counters.{index, Shaped, Counters, counters, marks, plusOne, least, lowerMarks, raiseMarks, freedMarks, freed, lowerAt, raiseAt, lowerFrom, raiseFrom, first, listLength, shiftOf, decideOf, releaseOf, brokenAfter, putMarks, putAt, Bodies, numberOf, weighFrom, weighOf, restNumber, weighNumber}
+use Rattle.counting.specs.Counters.{index, Shaped, Counters, counters, marks, plusOne, least, lowerMarks, raiseMarks, freedMarks, freed, lowerAt, raiseAt, lowerFrom, raiseFrom, first, listLength, shiftOf, decideOf, releaseOf, brokenAfter, putMarks, putAt, renewAt, isNamed, Bodies, numberOf, weighFrom, weighOf, restNumber, weighNumber}
 
 pub more-one : (k : ℕ) → k < 65535 → k + 1 ≡ plusOne k
 more-one k h = rw (lt-ltb k 65535 h)
@@ -278,10 +278,29 @@ put-len : (r x : ℕ) (t : Counters) → length (putAt r x t .key) ≡ length (t
 unfolding putAt
 put-len r x t = simp length-set
 
+renew-len : (r x : ℕ) (t : Counters) → length (renewAt r x t .key) ≡ length (t .key)
+renew-len r x t = go (eqb (getD (t .key) r 0) x)
+  where
+    go : (b : Bool) → length (pick b t (putAt r x t) .key) ≡ length (t .key)
+    go true = refl
+    go false = put-len r x t
+
+module _ (key : List ℕ) (r x : ℕ) (m : Marks) where
+  pub renew-same : getD key r 0 ≡ x → counters key m ≡ renewAt r x (counters key m)
+  renew-same e = rw (eq-eqb (getD key r 0) x e)
+
+  pub renew-put : (getD key r 0 ≡ x → ⊥) → {t₁ : Counters} → t₁ ≡ putAt r x (counters key m) → t₁ ≡ renewAt r x (counters key m)
+  renew-put n e = rw (ne-eqb (getD key r 0) x n) e
+
+-- no rule with a weighted body names the atom
+pub weigh-none : (b : Bodies) (o : Index) (a : ℕ) (v : List ℕ) (t : Counters) → isNamed o a ≡ false → weighOf b o a v t ≡ t
+unfolding weighOf weighFrom
+weigh-none b o a v t e = let z : listLength o (2050 + a) ≡ 0 = omega (arith, ltb-false (first o (2050 + a)) (first o (2050 + a + 1)) e) in rw z
+
 weigh-all-len : (b : Bodies) (v rs : List ℕ) (e k : ℕ) (t : Counters) → length (weighFrom b v rs e k t .key) ≡ length (t .key)
 unfolding weighFrom
 weigh-all-len b v rs e zero t = refl
-weigh-all-len b v rs e (suc k) t = weigh-all-len b v rs (e + 1) k (putAt (getD rs e 0) (numberOf b v (getD rs e 0)) t) ∙ put-len (getD rs e 0) (numberOf b v (getD rs e 0)) t
+weigh-all-len b v rs e (suc k) t = weigh-all-len b v rs (e + 1) k (renewAt (getD rs e 0) (numberOf b v (getD rs e 0)) t) ∙ renew-len (getD rs e 0) (numberOf b v (getD rs e 0)) t
 
 pub weigh-len : (b : Bodies) (o : Index) (a : ℕ) (v : List ℕ) (t : Counters) → length (weighOf b o a v t .key) ≡ length (t .key)
 unfolding weighOf
@@ -296,10 +315,10 @@ module _ (b : Bodies) (v rs : List ℕ) (from end : ℕ) where
   pub weighing-start : (t : Counters) → length (t .key) ≡ 2048 → Weighing b v rs from end t t from
   weighing-start t l = record { long = l; after = omega arith; rest = refl }
 
-  pub weighing-next : {t₀ t : Counters} {e : ℕ} → Weighing b v rs from end t₀ t e → e < end → {r : ℕ} → r ≡ getD rs e 0 → {x : ℕ} → x ≡ numberOf b v r → {t₁ : Counters} → t₁ ≡ putAt r x t → Weighing b v rs from end t₀ t₁ (e + 1)
+  pub weighing-next : {t₀ t : Counters} {e : ℕ} → Weighing b v rs from end t₀ t e → e < end → {r : ℕ} → r ≡ getD rs e 0 → {x : ℕ} → x ≡ numberOf b v r → {t₁ : Counters} → t₁ ≡ renewAt r x t → Weighing b v rs from end t₀ t₁ (e + 1)
   unfolding weighFrom
   weighing-next {t₀} {t} {e} w h er ex et = rw (et, ex, er) (record {
-    long = put-len (getD rs e 0) (numberOf b v (getD rs e 0)) t ∙ w .long;
+    long = renew-len (getD rs e 0) (numberOf b v (getD rs e 0)) t ∙ w .long;
     after = omega (arith, w .after);
     rest = let q : end - e ≡ suc (end - (e + 1)) = omega arith in rw q at (w .rest);
   })

@@ -4,7 +4,7 @@ use mathlib.Core.Bool.{Bool, true, false}
 use mathlib.Core.List.{List}
 use Prim.Native.Nat.{ℕ, zero, suc, _+_, _-_, _≤_, _<_}
 use native.Mathlib.Omega.{arith}
-use lib.Dec.{eqb}
+use lib.Dec.{eqb, ltb}
 use lib.IntN.{ℤ, pos, negℤ, natAbs}
 use lib.ListN.{length, getD, set, length-set}
 use mir.Syntax.{w32}
@@ -18,9 +18,9 @@ use Rattle.search.specs.Places.{places, sideOf, putOf, dropOf, Good}
 use Rattle.search.proofs.PlacesLaws.{good-drop}
 use Rattle.counting.specs.declared.counters.Marks.{Marks}
 use Rattle.counting.specs.declared.counters.Index.{Index}
-use Rattle.counting.specs.Counters.{Shaped, Counters, counters, decideOf, releaseOf, Bodies, weighOf}
+use Rattle.counting.specs.Counters.{index, Shaped, Counters, counters, decideOf, releaseOf, Bodies, weighOf}
 use Rattle.counting.specs.Moves.{CountedTrail, countedTrail, Fit, putAll, dropAll, backAllFrom, backAll}
-use Rattle.counting.proofs.CounterLaws.{release-len, decide-len, weigh-len}
+use Rattle.counting.proofs.CounterLaws.{release-len, decide-len, weigh-len, weigh-none}
 
 -- a small i32 read back
 back-to : (l : ℤ) → natAbs l ≤ 1024 → toZ w32 (ofZ w32 l) ≡ l
@@ -38,6 +38,11 @@ module _ (bs : Bodies) (o : Index) (l : ℤ) (mark : ℕ) (t : Places) (y : Coun
       → {y₂ : Counters} → y₂ ≡ weighOf bs o a (t₁ .value) y₁ → countedTrail t₁ y₂ ≡ putAll bs o l mark (countedTrail t y)
   unfolding putAll
   put-done h ea es ey et ez = rw (ez, et, ey, ea, es, back-to l h)
+
+-- the same, where no rule with a weighted body names the atom
+module _ (bs : Bodies) (s rs : List ℕ) (a : ℕ) {b : Bool} (eb : b ≡ ltb (getD s (2050 + a) 0) (getD s (2050 + a + 1) 0)) (q : b ≡ false) where
+  pub unnamed : (v : List ℕ) (y : Counters) → y ≡ weighOf bs (index s rs) a v y
+  unnamed v y = sym (weigh-none bs (index s rs) a v y (sym eb ∙ q))
 
 pub push-done : (bs : Bodies) (o : Index) (l : ℤ) (h : CountedTrail) → natAbs l ≤ 1024 → {h₁ : CountedTrail} → h₁ ≡ putAll bs o (toZ w32 (ofZ w32 l)) 1 h → h₁ ≡ putAll bs o l 1 h
 push-done bs o l h s e = rw (back-to l s) at e
@@ -57,6 +62,9 @@ module _ {bs : Bodies} {o : Index} {v key : List ℕ} where
 
   pub fit-key : Fit bs o v key → length key ≡ 2048
   fit-key f = f .key-len
+
+  pub fit-starts : Fit bs o v key → length (o .starts) ≡ 3076
+  fit-starts f = f .shaped .long
 
 -- between the lists and the weighted bodies
 module _ {bs : Bodies} {o : Index} {v key key₁ : List ℕ} (f : Fit bs o v key) (m : Marks) {m₁ : Marks} where

@@ -20,7 +20,7 @@ use Rattle.search.specs.Scan.{condAt, freeOf, meetOf, meets, begins, headCondit
 use Rattle.search.specs.Weigh.{total, owedPair, owedAt, pairMet, metAt, leastAt, worth, breakerOf, bodyRest}
 use Rattle.search.proofs.ScanLaws.{off-stays}
 use Rattle.counting.specs.declared.counters.Marks.{Marks}
-use Rattle.counting.specs.Counters.{Counters, counters, restNumber, weighNumber, Bodies, numberOf, putAt, weighFrom}
+use Rattle.counting.specs.Counters.{Counters, counters, restNumber, weighNumber, Bodies, numberOf, putMarks, putAt, renewAt, weighFrom}
 use Rattle.counting.specs.Counts.{sumFrom, countFrom, MarksRight}
 use Rattle.counting.proofs.Marking.{put-marked, put-at, put-other}
 
@@ -100,19 +100,51 @@ module _ (v w : List ℕ) where
           (λ j a b. truth-alike (condAt pool (x .b + x .c) j)
           (let z : natAbs (condAt pool (x .b + x .c) j) ≡ natAbs (getD pool j (pos 0)) = cond-abs (ltb j (x .b + x .c)) (getD pool j (pos 0)) in rw z (h j (rw e a) (omega arith))))
 
+-- ---- a rule gets its number
+
+module _ (count : ℕ) (few : count ≤ 2048) (r k : ℕ) (t : Counters) (m : MarksRight count t) (h : r < count) where
+  pub renew-marked : MarksRight count (renewAt r k t)
+  renew-marked = go (eqb (getD (t .key) r 0) k)
+    where
+      go : (b : Bool) → MarksRight count (pick b t (putAt r k t))
+      go true = m
+      go false = put-marked count few r k t m h
+
+  renew-at : getD (renewAt r k t .key) r 0 ≡ k
+  renew-at = go (eqb (getD (t .key) r 0) k) refl
+    where
+      go : (b : Bool) → eqb (getD (t .key) r 0) k ≡ b → getD (pick b t (putAt r k t) .key) r 0 ≡ k
+      go true e = eqb-true (getD (t .key) r 0) k e
+      go false e = put-at count few r k t m h
+
+  renew-other : (j : ℕ) → (j ≡ r → ⊥) → getD (renewAt r k t .key) j 0 ≡ getD (t .key) j 0
+  renew-other j n = go (eqb (getD (t .key) r 0) k)
+    where
+      go : (b : Bool) → getD (pick b t (putAt r k t) .key) j 0 ≡ getD (t .key) j 0
+      go true = refl
+      go false = put-other count few r k t m h j n
+
+renew-atom : (r k : ℕ) (t : Counters) → renewAt r k t .marks .atom ≡ t .marks .atom
+unfolding putAt
+renew-atom r k t = go (eqb (getD (t .key) r 0) k)
+  where
+    go : (b : Bool) → pick b t (counters (set (t .key) r k) (putMarks r (getD (t .key) r 0) k (t .marks))) .marks .atom ≡ t .marks .atom
+    go true = refl
+    go false = refl
+
 -- ---- a list of rules gets their numbers
 
 module _ (count : ℕ) (few : count ≤ 2048) (b : Bodies) (v rs : List ℕ) where
   put-all-atom : (e k : ℕ) (t : Counters) → weighFrom b v rs e k t .marks .atom ≡ t .marks .atom
-  unfolding weighFrom putAt
+  unfolding weighFrom
   put-all-atom e zero t = refl
-  put-all-atom e (suc k) t = put-all-atom (e + 1) k (putAt (getD rs e 0) (numberOf b v (getD rs e 0)) t)
+  put-all-atom e (suc k) t = put-all-atom (e + 1) k (renewAt (getD rs e 0) (numberOf b v (getD rs e 0)) t) ∙ renew-atom (getD rs e 0) (numberOf b v (getD rs e 0)) t
 
   pub weigh-marked : (e k : ℕ) (t : Counters) → MarksRight count t → ((x : ℕ) → e ≤ x → x < e + k → getD rs x 0 < count) → MarksRight count (weighFrom b v rs e k t)
   unfolding weighFrom
   weigh-marked e zero t m i = m
   weigh-marked e (suc k) t m i =
-      weigh-marked (e + 1) k (putAt (getD rs e 0) (numberOf b v (getD rs e 0)) t) (put-marked count few (getD rs e 0) (numberOf b v (getD rs e 0)) t m (i e (omega arith) (omega arith))) (λ x p q. i x (omega arith) (omega arith))
+      weigh-marked (e + 1) k (renewAt (getD rs e 0) (numberOf b v (getD rs e 0)) t) (renew-marked count few (getD rs e 0) (numberOf b v (getD rs e 0)) t m (i e (omega arith) (omega arith))) (λ x p q. i x (omega arith) (omega arith))
 
   pub weigh-atom : (e k : ℕ) (t : Counters) → weighFrom b v rs e k t .marks .atom ≡ t .marks .atom
   weigh-atom = put-all-atom
@@ -124,24 +156,24 @@ module _ (count : ℕ) (few : count ≤ 2048) (b : Bodies) (v rs : List ℕ) whe
   weigh-has e zero t m i r h (inl n) = absurd (n refl)
   weigh-has e zero t m i r h (inr q) = q
   weigh-has e (suc k) t m i r h c =
-      weigh-has (e + 1) k (putAt (getD rs e 0) (numberOf b v (getD rs e 0)) t) (put-marked count few (getD rs e 0) (numberOf b v (getD rs e 0)) t m here) (λ x p q. i x (omega arith) (omega arith)) r h (go (eqb (getD rs e 0) r) refl c)
+      weigh-has (e + 1) k (renewAt (getD rs e 0) (numberOf b v (getD rs e 0)) t) (renew-marked count few (getD rs e 0) (numberOf b v (getD rs e 0)) t m here) (λ x p q. i x (omega arith) (omega arith)) r h (go (eqb (getD rs e 0) r) refl c)
     where
       here : getD rs e 0 < count
       here = i e (omega arith) (omega arith)
 
       go : (y : Bool) → eqb (getD rs e 0) r ≡ y → (ind y + countFrom rs r (e + 1) k ≡ 0 → ⊥) ⊎ (getD (t .key) r 0 ≡ numberOf b v r)
-          → (countFrom rs r (e + 1) k ≡ 0 → ⊥) ⊎ (getD (putAt (getD rs e 0) (numberOf b v (getD rs e 0)) t .key) r 0 ≡ numberOf b v r)
-      go true q c = let z : getD rs e 0 ≡ r = eqb-true (getD rs e 0) r q in inr (rw z (put-at count few r (numberOf b v r) t m h))
+          → (countFrom rs r (e + 1) k ≡ 0 → ⊥) ⊎ (getD (renewAt (getD rs e 0) (numberOf b v (getD rs e 0)) t .key) r 0 ≡ numberOf b v r)
+      go true q c = let z : getD rs e 0 ≡ r = eqb-true (getD rs e 0) r q in inr (rw z (renew-at count few r (numberOf b v r) t m h))
       go false q (inl n) = inl (λ z. n (omega arith))
-      go false q (inr p) = inr (put-other count few (getD rs e 0) (numberOf b v (getD rs e 0)) t m here r (λ z. eqb-false (getD rs e 0) r q (sym z)) ∙ p)
+      go false q (inr p) = inr (renew-other count few (getD rs e 0) (numberOf b v (getD rs e 0)) t m here r (λ z. eqb-false (getD rs e 0) r q (sym z)) ∙ p)
 
   -- one that is not in the list keeps its own
   pub weigh-keeps : (e k : ℕ) (t : Counters) → MarksRight count t → ((x : ℕ) → e ≤ x → x < e + k → getD rs x 0 < count) → (r : ℕ) → countFrom rs r e k ≡ 0 → getD (weighFrom b v rs e k t .key) r 0 ≡ getD (t .key) r 0
   unfolding weighFrom sumFrom
   weigh-keeps e zero t m i r c = refl
   weigh-keeps e (suc k) t m i r c =
-      weigh-keeps (e + 1) k (putAt (getD rs e 0) (numberOf b v (getD rs e 0)) t) (put-marked count few (getD rs e 0) (numberOf b v (getD rs e 0)) t m here) (λ x p q. i x (omega arith) (omega arith)) r (omega arith)
-      ∙ put-other count few (getD rs e 0) (numberOf b v (getD rs e 0)) t m here r (λ z. absurd (go (eqb (getD rs e 0) r) refl z))
+      weigh-keeps (e + 1) k (renewAt (getD rs e 0) (numberOf b v (getD rs e 0)) t) (renew-marked count few (getD rs e 0) (numberOf b v (getD rs e 0)) t m here) (λ x p q. i x (omega arith) (omega arith)) r (omega arith)
+      ∙ renew-other count few (getD rs e 0) (numberOf b v (getD rs e 0)) t m here r (λ z. absurd (go (eqb (getD rs e 0) r) refl z))
     where
       here : getD rs e 0 < count
       here = i e (omega arith) (omega arith)

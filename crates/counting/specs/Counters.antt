@@ -1,13 +1,15 @@
 -- A number for each rule, kept by every move: what a move does to the table. Assumes nothing: these are definitions.
 use mathlib.Core.Path.{_≡_}
 use mathlib.Core.Bool.{Bool, true, false}
-use mathlib.Core.List.{List}
+use mathlib.Core.List.{List, [], _∷_}
 use lib.IntN.{ℤ}
-use Prim.Native.Nat.{ℕ, zero, suc, _+_, _-_, _*_, _≤_, _<_}
+use Prim.Native.Nat.{ℕ, zero, suc, _+_, _-_, _*_, _≤_, _<_, max}
 use lib.Dec.{eqb, ltb}
 use lib.ListN.{length, getD, set}
 use Rattle.asp.specs.Sets.{pick}
+use Rattle.asp.specs.Program.{Weighed}
 use Rattle.asp.specs.Tables.{Row, rowAt}
+use Rattle.search.specs.Places.{truthAt}
 use Rattle.search.specs.Scan.{headRest, weightedRest}
 use Rattle.search.specs.declared.scan.Rest.{Rest}
 use Rattle.search.specs.declared.scan.Rest.the-variants.{All, One, Off}
@@ -90,6 +92,11 @@ restNumber All = 0
 restNumber (One l) = 1
 restNumber Off = 2
 
+-- the greatest weight of an undecided literal
+unfoldable pub openAt : List ℕ → List Weighed → ℕ
+openAt v [] = 0
+openAt v (p ∷ ps) = max (pick (eqb (truthAt v (p .literal)) 0) (p .weight) 0) (openAt v ps)
+
 unfoldable pub weighNumber : List ℤ → List ℕ → Row → ℕ
 weighNumber pool v w = restNumber (headRest pool v w) + restNumber (weightedRest pool v w)
 
@@ -114,9 +121,17 @@ putMarks r old new m = marks (brokenAfter old new (m .broken)) (pick (ltb new 2)
 unfoldable pub putAt : ℕ → ℕ → Counters → Counters
 putAt r k t = counters (set (t .key) r k) (putMarks r (getD (t .key) r 0) k (t .marks))
 
+-- .. if it is another
+abbrev pub renewAt : ℕ → ℕ → Counters → Counters
+renewAt r k t = pick (eqb (getD (t .key) r 0) k) t (putAt r k t)
+
 unfoldable pub weighFrom : Bodies → List ℕ → List ℕ → ℕ → ℕ → Counters → Counters
 weighFrom b v rs e zero t = t
-weighFrom b v rs e (suc k) t = weighFrom b v rs (e + 1) k (putAt (getD rs e 0) (numberOf b v (getD rs e 0)) t)
+weighFrom b v rs e (suc k) t = weighFrom b v rs (e + 1) k (renewAt (getD rs e 0) (numberOf b v (getD rs e 0)) t)
+
+-- some rule with a weighted body names the atom a
+abbrev pub isNamed : Index → ℕ → Bool
+isNamed o a = ltb (first o (2050 + a)) (first o (2050 + a + 1))
 
 -- the rules that name the atom a
 unfoldable pub weighOf : Bodies → Index → ℕ → List ℕ → Counters → Counters

@@ -23,8 +23,8 @@ number-at-requires c κs = search (weighing-inside, needs)
 number-requires : tie.Need-number-requires Inv-loop μ-loop
 number-requires c κs = search (weighing-row, needs)
 
-put-at-requires : tie.Need-put-at-requires Inv-loop μ-loop
-put-at-requires c κs = (search (weighing-small, needs), search needs)
+renew-at-requires : tie.Need-renew-at-requires Inv-loop μ-loop
+renew-at-requires c κs = (search (weighing-small, needs), search needs)
 
 add-e : tie.Need-add-e Inv-loop μ-loop
 add-e c = omega arith
@@ -47,7 +47,7 @@ weigh-all-spec =
     loop-holds
     number-at-requires
     number-requires
-    put-at-requires
+    renew-at-requires
     add-e
     loop-less
     loop-again
