@@ -1,0 +1,13 @@
+use borrow.Author.Rules.{rules}
+use mir.Syntax.{w64}
+use mir.Val.{SFits}
+use Rattle.asp.proofs.Paying.{filling_start, filling_next}
+use Rattle.asp.proofs.cost.level_costs.Goals as goal
+
+pub loop-i-init : goal.loop-i-init
+loop-i-init c = search (filling_start, rules)
+
+pub loop-i-preserved : goal.loop-i-preserved
+loop-i-preserved c =
+    let f : SFits w64 c.level_cost.result = record { sfits = c.level_cost.type_inv } in
+    search (filling_next, f, rules)
