@@ -106,7 +106,8 @@ unfolding unmixed total
 weight_gain n p [] i u a = absurd a
 weight_gain n p (q ∷ ps) i u (inl e) =
     let y = and_yes (eqb (total (neg_ℤ q.literal) ps) 0) (unmixed ps) u in
-    rw (e, same_self q.literal, not_own q.literal i.0.0) (omega (arith, eqb-true (total (neg_ℤ q.literal) ps) 0 (is_true _ y.0)))
+    let k : total (neg_ℤ p.literal) ps ≡ 0 = ap (λ (x : Weighed). total (neg_ℤ x.literal) ps) e ∙ eqb-true (total (neg_ℤ q.literal) ps) 0 (is_true _ y.0) in
+    rw (e, same_self q.literal, not_own q.literal i.0.0) (omega (arith, k))
   where
     is_true : (b : Bool) → T b → b ≡ true
     is_true true t = refl

@@ -4,6 +4,8 @@
 // the scan and the step are in `counting`, which keeps a number for each rule.
 // Theorems: proofs/Search (any class of sought sets, any right test, blame, the count), Agree (broken in every set that agrees), Breakers (the noted literal),
 // Scans (the scan is exact), Steps (the test on the tables is document 01's, a step on the tables is the machine's), ByRules, Kept (what callers of a step and of a cut know), Blamed, Unbroken.
+#![tactic(auto)]
+
 pub mod branch;
 pub mod scan;
 pub mod soft;

@@ -1,0 +1,12 @@
+use Rattle.search.proofs.StepLaws.{test_full, test_violated, test_open}
+use borrow.Author.Rules.{rules}
+use Rattle.search.proofs.step.test_unbroken.Goals as goal
+
+pub returns-then-n-len : goal.returns-then-n-len
+returns-then-n-len c = search (test_full, rules)
+
+pub returns-in-At : goal.returns-in-At
+returns-in-At c = search (test_violated, rules)
+
+pub returns-in-Unviolated : goal.returns-in-Unviolated
+returns-in-Unviolated c = search (test_open, rules)
