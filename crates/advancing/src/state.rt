@@ -7,7 +7,7 @@ use cores::level::LevelTables;
 use search::trail::Places;
 
 // Where it stands: in the first query, on a level, or ended.
-#[derive(Drop)]
+#[derive(Clone, Copy)]
 pub enum Phase {
     First,
     Level,
@@ -30,7 +30,7 @@ pub fn is_running(p: Phase) -> bool
 
 // What the query has blamed: the places of soft literals, newest first, in `core` from `from` on; and, by the order in which the query assumes the soft literals of
 // entries, 1 for a blamed one.
-#[derive(Drop)]
+#[derive(Clone, Copy)]
 pub struct Blame {
     pub flags: [u8; 4096],
     pub from: usize,
@@ -39,7 +39,7 @@ pub struct Blame {
 
 // What stands still during a query: the number of settled levels, which is the place of the level in work; its soft literals and cores; the stratum; the lower bounds;
 // the best model, as bytes by atom, 1 for an atom in it; and its costs.
-#[derive(Drop)]
+#[derive(Clone, Copy)]
 pub struct Work {
     pub level: usize,
     pub tables: LevelTables,
@@ -49,7 +49,7 @@ pub struct Work {
     pub best: [u8; 1025],
 }
 
-#[derive(Drop)]
+#[derive(Clone, Copy)]
 pub struct Search {
     pub phase: Phase,
     pub advances: u64,
@@ -59,7 +59,7 @@ pub struct Search {
 }
 
 // What one step of a query comes to: it goes on, or ends without a model, or with the one on the trail.
-#[derive(Drop)]
+#[derive(Clone, Copy)]
 pub enum Turn {
     Going,
     Without,
@@ -67,7 +67,7 @@ pub enum Turn {
 }
 
 // What a full trail is: wanted; refuted by the rules or the settled costs; or with an assumed soft literal that it violates.
-#[derive(Drop)]
+#[derive(Clone, Copy)]
 pub enum Judgement {
     Wanted,
     Dead,

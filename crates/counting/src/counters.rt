@@ -5,14 +5,14 @@ ghost use Rattle.counting.specs.Counters.{index, Shaped, counters, plus_one, low
 use asp::table::number_at;
 
 // The rules in which a literal is a condition, or an atom is a head (or one that a weighted body names): list i has the places from `starts` at i to `starts` at i + 1 of `rules`.
-#[derive(Drop)]
+#[derive(Clone, Copy)]
 pub struct Index {
     pub starts: [u16; 3076],
     pub rules: [u16; 16385],
 }
 
 // Where the searches start: how many rules are broken; a rule below which all numbers are 2 or more; one below which none is 0; and an atom below which all are decided.
-#[derive(Drop)]
+#[derive(Clone, Copy)]
 pub struct Marks {
     pub broken: usize,
     pub low: usize,

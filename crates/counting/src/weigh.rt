@@ -80,7 +80,7 @@ pub fn rest<'a>(pool: &'a [i32], rows: &'a [u16], r: usize, value: &'a [u8; 1025
 }
 
 // What the pairs come to: the weights of the true literals, and the greatest of an undecided one.
-#[derive(Drop)]
+#[derive(Clone, Copy)]
 struct Pairs {
     met: u64,
     most: u64,

@@ -14,7 +14,7 @@ use cores::level::LevelTables;
 use cores::recording;
 
 // What an end comes to, but for the tables: the phase; the place of the level in work, and whether it is opened; the stratum, if it is not; the best model and its costs.
-#[derive(Drop)]
+#[derive(Clone, Copy)]
 pub struct Ending {
     pub phase: Phase,
     pub opens: bool,

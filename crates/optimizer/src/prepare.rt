@@ -7,7 +7,7 @@ ghost use Rattle.optimizer.specs.Prepare.{no_preparation};
 use counting::counters::Index;
 
 // The rules by condition and by head atom; by atom, 1 for one to be tried in first.
-#[derive(Drop)]
+#[derive(Clone, Copy)]
 pub struct Preparation {
     pub conditions: Index,
     pub heads: Index,

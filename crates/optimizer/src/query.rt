@@ -18,7 +18,7 @@ use indexing::fill;
 use judging::query;
 
 // What steps came to, and the greatest remaining weight below the stratum.
-#[derive(Drop)]
+#[derive(Clone, Copy)]
 pub struct Asked {
     pub steps: Steps,
     pub below: u32,

@@ -24,7 +24,7 @@ fn fresh_blame() -> Blame
 }
 
 // An optimization, and how many advances were made in it.
-#[derive(Drop)]
+#[derive(Clone, Copy)]
 pub struct Advanced {
     pub search: Search,
     pub made: u32,

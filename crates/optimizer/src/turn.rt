@@ -17,7 +17,7 @@ use indexing::machine;
 use search::step::Tested;
 
 // What a step came to, with the trail's length and the first blamed place after it.
-#[derive(Drop)]
+#[derive(Clone, Copy)]
 pub struct Turning {
     pub turn: Turn,
     pub len: usize,
@@ -25,7 +25,7 @@ pub struct Turning {
 }
 
 // What a step came to, and the marks of the numbers after it.
-#[derive(Drop)]
+#[derive(Clone, Copy)]
 pub struct Tracked {
     pub turning: Turning,
     pub marks: Marks,
@@ -253,7 +253,7 @@ pub fn turn<'a>(
 }
 
 // What some steps came to, and how many they were.
-#[derive(Drop)]
+#[derive(Clone, Copy)]
 pub struct Steps {
     pub turning: Turning,
     pub made: u32,

@@ -6,13 +6,13 @@ ghost use Rattle.planner.specs.Calls.{outcome, says_advance, advance_call, says_
 use crate::service::{Service, Status, status_of, used};
 
 // The status after it; or nothing is loaded, refusal 6.
-#[derive(Drop)]
+#[derive(Clone, Copy)]
 pub enum Advancing {
     Now { status: Status },
     NotLoaded,
 }
 
-#[derive(Drop)]
+#[derive(Clone, Copy)]
 pub struct Advanced {
     pub service: Service,
     pub answer: Advancing,
@@ -69,13 +69,13 @@ pub fn advance(s: Service) -> Advanced
 }
 
 // How many advances were made, and the status after them; or nothing is loaded, refusal 6.
-#[derive(Drop)]
+#[derive(Clone, Copy)]
 pub enum Running {
     Made { made: u32, status: Status },
     NotLoaded,
 }
 
-#[derive(Drop)]
+#[derive(Clone, Copy)]
 pub struct Ran {
     pub service: Service,
     pub answer: Running,

@@ -6,7 +6,7 @@ use crate::service::Service;
 use aspif::write::Written;
 
 // The length of what was written at the front of the bytes; or refusal 6, 7, 9, or 8 with the needed length.
-#[derive(Drop)]
+#[derive(Clone, Copy)]
 pub enum Fill {
     Length { length: usize },
     NotLoaded,
@@ -15,7 +15,7 @@ pub enum Fill {
     Short { needed: usize },
 }
 
-#[derive(Drop)]
+#[derive(Clone, Copy)]
 pub struct Filled {
     pub service: Service,
     pub answer: Fill,

@@ -5,7 +5,7 @@ ghost use Rattle.planner.specs.Calls.{outcome, says_load, AfterLoad};
 use crate::service::{Service, used};
 use aspif::text::Loading;
 
-#[derive(Drop)]
+#[derive(Clone, Copy)]
 pub struct Loaded {
     pub service: Service,
     pub answer: Loading,

@@ -8,7 +8,7 @@ use crate::service::{Service, Status, status_of};
 use advancing::state::Phase;
 
 // What a look gives. Of priorities, lower and upper bound the first `levels` places count; there is an upper bound where `bounded`.
-#[derive(Drop)]
+#[derive(Clone, Copy)]
 pub struct View {
     pub status: Status,
     pub advances: u64,
@@ -21,7 +21,7 @@ pub struct View {
     pub stratum: u32,
 }
 
-#[derive(Drop)]
+#[derive(Clone, Copy)]
 pub struct Looked {
     pub service: Service,
     pub view: View,

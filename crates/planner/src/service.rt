@@ -8,7 +8,7 @@ use aspif::text::Stored;
 use optimizer::prepare::Preparation;
 
 // A program, if one is loaded, what is prepared for it, and its optimization.
-#[derive(Drop)]
+#[derive(Clone, Copy)]
 pub struct Service {
     pub loaded: bool,
     pub stored: Stored,
@@ -16,7 +16,7 @@ pub struct Service {
     pub search: Search,
 }
 
-#[derive(Drop)]
+#[derive(Clone, Copy)]
 pub enum Status {
     Empty,
     Running,

@@ -58,7 +58,7 @@ pub fn name(s: Service, i: usize, bytes: &mut [u8]) -> Filled
 }
 
 // Whether a symbol is shown; or refusal 6, 9, 7.
-#[derive(Drop)]
+#[derive(Clone, Copy)]
 pub enum Showing {
     Shown,
     Hidden,
@@ -67,7 +67,7 @@ pub enum Showing {
     NoModel,
 }
 
-#[derive(Drop)]
+#[derive(Clone, Copy)]
 pub struct Showed {
     pub service: Service,
     pub answer: Showing,

@@ -6,7 +6,7 @@ use crate::value;
 use asp::{literal, table};
 
 // What is left of a rule's conditions: nothing (all are on the trail), one undecided literal, or too much.
-#[derive(Drop)]
+#[derive(Clone, Copy)]
 pub enum Rest {
     All,
     One(i32),
@@ -14,7 +14,7 @@ pub enum Rest {
 }
 
 // What the scan finds: the first broken rule; else the first literal that would break one; else neither.
-#[derive(Drop)]
+#[derive(Clone, Copy)]
 pub enum Found {
     Broken(usize),
     Breaker(i32),

@@ -7,14 +7,14 @@ use crate::value;
 use asp::table;
 
 // Which one is violated on a trail.
-#[derive(Drop)]
+#[derive(Clone, Copy)]
 pub enum Violation {
     At(usize),
     Unviolated,
 }
 
 // The first wished literal that is undecided.
-#[derive(Drop)]
+#[derive(Clone, Copy)]
 pub enum Wish {
     For(i32),
     Decided,

@@ -10,7 +10,7 @@ use crate::soft::Violation;
 use crate::{branch, soft};
 
 // What the test says of a trail: a rule is broken; it holds all n atoms, for the caller to judge; an assumed soft literal is violated; or it is open, with the literal to add.
-#[derive(Drop)]
+#[derive(Clone, Copy)]
 pub enum Tested {
     RuleBroken(usize),
     Full,

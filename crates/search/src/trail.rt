@@ -6,7 +6,7 @@ use crate::value;
 use asp::literal;
 
 // The tables of a trail by value, as a state keeps them.
-#[derive(Drop)]
+#[derive(Clone, Copy)]
 pub struct Places {
     pub lits: [i32; 1024],
     pub marks: [u8; 1024],

@@ -10,7 +10,7 @@ ghost use Rattle.stability.specs.Verdict.{stability_of};
 
 use asp::{literal, table};
 
-#[derive(Drop)]
+#[derive(Clone, Copy)]
 pub enum Stability {
     Stable,
     // a constraint's body holds

@@ -210,11 +210,13 @@ one_stays v l s (x ∷ ls) h = one_stays v l (meet_of v s x) ls (go (eqb (truth_
 
     go : (b d : Bool) (s : Rest) → Stays l s → Stays l (pick b s (pick d (free_of s x) Off))
     go true d s h = h
+    go false true All h = elim h [ ]
     go false true (One y) alone = same (same_ℤ l x)
     go false true Off off = off
     go false false s h = off
 
 stays_is : (l : ℤ) (s : Rest) → Stays l s → (s ≡ Off → ⊥) → s ≡ One l
+stays_is l All x n = elim x [ ]
 stays_is l (One y) alone n = refl
 stays_is l Off off n = absurd (n refl)
 

@@ -13,7 +13,7 @@ use search::scan;
 use search::scan::{Found, Rest};
 
 // What the scan finds; a rule below which all numbers are 2 or more, and one below which none is 0.
-#[derive(Drop)]
+#[derive(Clone, Copy)]
 pub struct ScanDone {
     pub found: Found,
     pub low: usize,
@@ -152,7 +152,7 @@ fn number(rows: &[u16], r: usize, j: usize) -> usize
 }
 
 // What the scan found, and the rule at which it was left.
-#[derive(Drop)]
+#[derive(Clone, Copy)]
 pub struct Spot {
     pub found: Found,
     pub rule: usize,

@@ -17,14 +17,14 @@ use search::step::Tested;
 use search::{branch, step};
 
 // What the test says, and the marks after it.
-#[derive(Drop)]
+#[derive(Clone, Copy)]
 pub struct Examined {
     pub tested: Tested,
     pub marks: Marks,
 }
 
 // What a step came to, the trail's length and the marks after it.
-#[derive(Drop)]
+#[derive(Clone, Copy)]
 pub struct AfterStep {
     pub tested: Tested,
     pub len: usize,

@@ -10,7 +10,7 @@ use counting::{counters, weigh};
 use search::{trail, value};
 
 // A trail's length, and the marks.
-#[derive(Drop)]
+#[derive(Clone, Copy)]
 pub struct Moved {
     pub len: usize,
     pub marks: Marks,
@@ -73,7 +73,7 @@ pub fn push<'a>(
 }
 
 // What is taken from the trail, and the marks after it.
-#[derive(Drop)]
+#[derive(Clone, Copy)]
 pub struct Taken {
     pub literal: i32,
     pub marks: Marks,
