@@ -13,6 +13,3 @@ pub mod Queries
 pub mod Links
 pub mod Unpacked
 pub mod Kept
-pub mod Lent
-pub mod Walk
-pub mod Lending

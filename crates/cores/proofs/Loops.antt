@@ -202,6 +202,12 @@ module _ {ps ls ws : List ℤ} {n : ℕ} {q : ℤ} {t : LevelTables} {k i : ℕ}
         sym (from_put t k x _ _ (rw f g)) ∙ o.rest;
   })
 
+  -- the same, from what the call that puts it says of the table
+  pub open_put_at : Opening ps ls ws n q t k i → i < n → {b : Bool} → b ≡ counts_at ps ws i q → b ≡ true
+      → {x : Soft} → x ≡ soft_at ls ws i → {xs : List Soft} → xs ≡ set t.softs k x
+      → {t₁ : LevelTables} → t₁ ≡ record { softs = xs; members = t.members; ends = t.ends; count = t.count; cores = t.cores; lower = t.lower } → {k₁ : ℕ} → k₁ ≡ k + 1 → Opening ps ls ws n q t₁ k₁ (i + 1)
+  open_put_at o h e y f ex et ek = open_put o h e y f (rw ex at et) ek
+
   pub open_skip : Opening ps ls ws n q t k i → i < n → {b : Bool} → b ≡ counts_at ps ws i q → b ≡ false
       → {t₁ : LevelTables} → t₁ ≡ t → {k₁ : ℕ} → k₁ ≡ k → Opening ps ls ws n q t₁ k₁ (i + 1)
   open_skip o h {b} e y et ek = rw (et, ek) (record {

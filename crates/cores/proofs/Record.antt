@@ -23,7 +23,7 @@ use Rattle.cores.proofs.Judgements.{all_map, unfolds, core_of_append, old_judgem
 
 pub fewer_is : (ms : List ℕ) → 1 ≤ length ms → suc (fewer ms) ≡ length ms
 fewer_is [] h = absurd (not-suc-le-zero h)
-fewer_is (m ∷ ms) h = refl
+fewer_is (m ∷ ms) h = omega arith
 
 -- what holds below n, and from n on, holds
 pub by_place {ℓ} : (P : ℕ → Type ℓ) (n : ℕ) → ((p : ℕ) → p < n → P p) → ((q : ℕ) → P (n + q)) → (p : ℕ) → P p

@@ -1,4 +1,6 @@
 // Soft literals (document 01: wishes), cores and levels: what specs/ defines, computed over tables.
+#![tactic(auto)]
+
 pub mod judge;
 pub mod level;
 pub mod recording;

@@ -3,7 +3,7 @@ ghost use Rattle.std.specs.Prelude.{◌≡◌, ◌≤◌, ◌-◌};
 ghost use Rattle.cores.specs.Tables.{no_soft, entry_soft, core_soft, lighter_by};
 
 // Of an entry: core 0, and the literal that violates it. The index-th of a core: literal 0.
-#[derive(Drop)]
+#[derive(Clone, Copy)]
 pub struct Soft {
     pub literal: i32,
     pub core: u16,

@@ -1,7 +1,5 @@
 // The table of soft literals, lent as a slice of records (document 01: "The wish table is lent to its calls as a slice of records").
-// Every read and every replacement of one record goes by these two. The borrow checker covers no function that has a reference to a slice of structs,
-// or makes one: these two, and those that lend them the table (`level::opened`, `recording::lose` and `add`, `query::unpack` and `stratum_below`, all
-// with plain parameters), are proved by walks of their MIR, by hand. Whoever calls those needs no walk.
+// Every read and every replacement of one record goes by these two.
 ghost use Rattle.std.specs.Prelude.{◌≡◌, ◌<◌, length, get_or, set};
 ghost use Rattle.cores.specs.Tables.{no_soft};
 

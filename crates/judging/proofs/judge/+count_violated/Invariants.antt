@@ -1,0 +1,18 @@
+use Rattle.std.proofs.Common.{◌+◌, ◌-◌, get_or}
+use Rattle.asp.specs.Sets.{set_of}
+use Rattle.cores.specs.Judging.{judging}
+use Rattle.cores.proofs.Columns.{Counting}
+use Rattle.judging.proofs.judge.+count_violated.Given as goal
+
+-- The core number falls from a soft literal to its core's members: counting core j stands at 2j, judging a soft literal of core c at 2c + 1.
+abbrev pub decreases-count : goal.decreases-count
+decreases-count l = l.j + l.j
+
+abbrev pub decreases-violated : goal.decreases-violated
+decreases-violated l = get_or l.cores.now l.p 0 + get_or l.cores.now l.p 0 + 1
+
+abbrev pub invariant-count-loop-k : goal.invariant-count-loop-k
+invariant-count-loop-k l = Counting (judging l.literals l.cores l.indices l.ends l.members) (set_of l.model) l.j l.end l.initial.counts l.counts l.k l.n
+
+abbrev pub decreases-count-loop-k : goal.decreases-count-loop-k
+decreases-count-loop-k l = l.end - l.k
