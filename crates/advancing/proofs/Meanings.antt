@@ -33,7 +33,7 @@ use Rattle.advancing.specs.declared.state.Work.{Work}
 use Rattle.optimum.specs.Optimize.{State, working, full, charges_on, open_next, settle, with_core, with_model, no_model, begun}
 use Rattle.optimum.specs.Optimize as abstract
 use Rattle.advancing.specs.Source.{Levels, Source, many, start_at, penalties_at, penalties_in, entries_in, FormedSource, FormedLevels}
-use Rattle.advancing.specs.State.{work, first_work}
+use Rattle.advancing.specs.State.{first_work}
 use Rattle.advancing.specs.Finish.{Placed, placed, next_from, begun_at, open_at, open_from, settle_of, costs_of, with_best, better_of, fallen, with_tables, tried_work}
 use Rattle.advancing.specs.Meaning.{past_at, settled_at, later_at, work_of, meant_by}
 use Rattle.advancing.proofs.Classes.{KindIn}

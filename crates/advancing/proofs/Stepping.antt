@@ -14,7 +14,7 @@ use Rattle.asp.specs.Sets.{Set, set_of, pick}
 use Rattle.asp.specs.Program.{All, Out, Distinct}
 use Rattle.asp.specs.Stable.{member}
 use Rattle.search.specs.declared.trail.Places.{Places}
-use Rattle.search.specs.Places.{places, SoundTrail, back_of}
+use Rattle.search.specs.Places.{SoundTrail, back_of}
 use Rattle.search.specs.Soft.{assumed_entries, FormedSoft}
 use Rattle.search.specs.Step.{test_of}
 use Rattle.search.specs.declared.step.Tested.{Tested}

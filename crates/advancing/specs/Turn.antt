@@ -1,23 +1,22 @@
 -- One step of a query, on the tables: the test, the judgement of a full trail, the move, the blame. Document 01, "Question and path"; what it leaves free is as docs/DECISIONS.md says.
 -- Assumes nothing: these are definitions.
-use Rattle.std.specs.Prelude.{Bool, true, false, ◌&&◌, List, [], ◌∷◌, ◌++◌, map, ℕ, zero, suc, ◌+◌, ◌-◌, eqb, ℤ, pos, neg_ℤ, length, get_or, set, take, drop}
+use Rattle.std.specs.Prelude.{Bool, true, false, ◌&&◌, List, [], ◌∷◌, ◌++◌, map, ℕ, zero, suc, ◌+◌, ◌-◌, eqb, ℤ, pos, neg_ℤ, length, get_or, set, drop}
 use Rattle.asp.specs.Sets.{Set, set_of, pick}
 use Rattle.asp.specs.Stable.{is_stable, member}
 use Rattle.asp.specs.Literal.{same_ℤ}
 use Rattle.asp.specs.Cost.{cost}
 use Rattle.search.specs.declared.trail.Places.{Places}
-use Rattle.search.specs.Places.{places, push_of, back_of}
+use Rattle.search.specs.Places.{push_of, back_of}
 use Rattle.search.specs.Soft.{AssumedEntries, assumed_entries}
 use Rattle.search.specs.Step.{test_of}
 use Rattle.search.specs.declared.step.Tested.{Tested}
 use Rattle.search.specs.declared.step.Tested.TheVariants.{RuleBroken, Full, SoftViolated, Open}
 use Rattle.cores.specs.Level.{assumed_from}
-use Rattle.cores.specs.Judging.{Judging, judging, violated_at, first_violated}
+use Rattle.cores.specs.Judging.{Judging, violated_at, first_violated}
 use Rattle.cores.specs.Columns.{entries_among}
 use Rattle.cores.specs.declared.judge.Judged.{Judged}
 use Rattle.cores.specs.declared.judge.Judged.TheVariants.{Met}
 use Rattle.cores.specs.declared.judge.Judged.TheVariants as judged
-use Rattle.cores.specs.declared.soft.Soft.{Soft}
 use Rattle.cores.specs.declared.level.LevelTables.{LevelTables}
 use Rattle.cores.specs.Tables.{level_of, level_judging}
 use Rattle.advancing.specs.declared.state.Blame.{Blame}

@@ -11,7 +11,7 @@ use Rattle.asp.specs.Sets.{pick}
 use Rattle.counting.specs.declared.counters.Marks.{Marks}
 use Rattle.counting.specs.declared.counters.Index.{Index}
 use Rattle.counting.specs.Moves.{RowReadable, ListReadable}
-use Rattle.counting.specs.Counters.{index, Shaped, Counters, counters, marks, plus_one, least, lower_marks, raise_marks, freed_marks, freed, lower_at, raise_at, lower_from, raise_from, first, list_length, shift_of, decide_of, release_of, broken_after, put_marks, put_at, renew_at, is_named, Bodies, number_of, weigh_from, weigh_of, rest_number, weigh_number}
+use Rattle.counting.specs.Counters.{index, Shaped, Counters, counters, marks, plus_one, least, lower_marks, raise_marks, freed_marks, freed, lower_at, raise_at, lower_from, raise_from, first, list_length, shift_of, decide_of, release_of, broken_after, put_marks, put_at, renew_at, is_named, Bodies, number_of, weigh_from, weigh_of}
 
 pub more_one : (k : ℕ) → k < 65535 → k + 1 ≡ plus_one k
 more_one k h = rw (lt-ltb k 65535 h)

@@ -1,29 +1,28 @@
 -- Every move keeps the numbers of the rules. Assumes nothing.
-use mathlib.Core.Path.{◌≡◌, refl, sym, ap, ap₂, ◌∙◌}
+use mathlib.Core.Path.{◌≡◌, refl, sym, ap, ◌∙◌}
 use mathlib.Core.Bool.{Bool, true, false}
 use mathlib.Core.List.{List}
-use mathlib.Core.Logic.{◌⊎◌, inl, inr}
-use Prim.Native.Nat.{ℕ, zero, suc, ◌+◌, ◌-◌, ◌*◌, ◌≤◌, ◌<◌}
+use mathlib.Core.Logic.{inl, inr}
+use Prim.Native.Nat.{ℕ, zero, suc, ◌+◌, ◌*◌, ◌≤◌, ◌<◌}
 use native.Mathlib.Omega.{arith}
-use lib.Dec.{eqb, ltb}
+use lib.Dec.{eqb}
 use lib.IntN.{ℤ, pos, negsuc, neg_ℤ, nat_abs}
 use lib.ListN.{length, get_or, set, length-set}
 use lib.Seq.{get_or-set_same, get_or-set_other, set-set}
-use borrow.Author.Tests.{eqb-true, eqb-false, lt-ltb, le-ltb, eq-eqb, ne_eqb}
-use Rattle.asp.specs.Sets.{pick, ind}
+use borrow.Author.Tests.{eqb-true, eqb-false}
+use Rattle.asp.specs.Sets.{pick}
 use Rattle.asp.specs.Tables.{is_choice, is_weighted, Row}
 use Rattle.asp.proofs.Signed.{abs_neg, clash}
-use Rattle.search.specs.declared.trail.Places.{Places}
-use Rattle.search.specs.Places.{places, side_of, truth_of, put_of, drop_of, Good}
+use Rattle.search.specs.Places.{side_of, truth_of, put_of, drop_of, Good}
 use Rattle.search.specs.declared.scan.Rest.{Rest}
 use Rattle.search.specs.declared.scan.Rest.TheVariants.{All, One, Off}
 use Rattle.search.specs.Scan.{Rules, row_of, head_rest, weighted_rest}
 use Rattle.search.specs.Branch.{DecidedBelow}
 use Rattle.search.proofs.PlacesLaws.{good_drop}
 use Rattle.counting.specs.declared.counters.Index.{Index}
-use Rattle.counting.specs.Counters.{Counters, least, freed, first, list_length, lower_from, raise_from, shift_of, decide_of, release_of, rest_number, weigh_number, Bodies, bodies, weigh_from, weigh_of}
-use Rattle.counting.specs.Moves.{CountedTrail, counted_trail, put_all, push_all, drop_all, back_all_from, back_all}
-use Rattle.counting.specs.Counts.{sum_from, count_from, times_in, weigh, term, key_as, key_of, MarksRight, TracksAs, Tracks, Indexed}
+use Rattle.counting.specs.Counters.{Counters, least, freed, first, list_length, lower_from, shift_of, decide_of, release_of, rest_number, weigh_number, Bodies, bodies, weigh_from, weigh_of}
+use Rattle.counting.specs.Moves.{CountedTrail, put_all, drop_all, back_all_from}
+use Rattle.counting.specs.Counts.{sum_from, times_in, weigh, term, key_as, key_of, TracksAs, Tracks, Indexed}
 use Rattle.counting.proofs.Sums.{sum_change, sum_bound, sum_part}
 use Rattle.counting.proofs.Marking.{least_le, lower_all, raise_all}
 use Rattle.counting.proofs.Numbers.{number_alike, weigh_marked, weigh_atom, weigh_has, weigh_keeps}

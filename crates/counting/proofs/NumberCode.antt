@@ -2,7 +2,7 @@
 use mathlib.Core.Path.{◌≡◌, refl, sym, ap, ap₂, ◌∙◌}
 use mathlib.Core.Bool.{Bool, true, false, ◌&&◌}
 use mathlib.Core.List.{List, [], ◌∷◌}
-use Prim.Native.Nat.{ℕ, zero, suc, ◌+◌, ◌-◌, ◌*◌, ◌≤◌, ◌<◌, max}
+use Prim.Native.Nat.{ℕ, ◌+◌, ◌-◌, ◌*◌, ◌≤◌, ◌<◌, max}
 use native.Mathlib.Omega.{arith}
 use lib.Dec.{eqb, ltb, leb}
 use borrow.Author.Tests.{eq-eqb, ne_eqb, le-leb, lt-leb, leb-true, leb-false}
@@ -10,7 +10,7 @@ use lib.IntN.{ℤ, pos, nat_abs}
 use lib.ListN.{length, get_or}
 use Rattle.asp.specs.Sets.{pick}
 use Rattle.asp.specs.Program.{Weighed}
-use Rattle.asp.specs.Tables.{span, is_choice, is_weighted, is_mixed, pair_at, pairs_at, row_at}
+use Rattle.asp.specs.Tables.{span, is_choice, is_mixed, pair_at, pairs_at, row_at}
 use Rattle.asp.proofs.Spans.{span_more, span_none, span_whole}
 use Rattle.asp.proofs.Pairs.{PairsLeft, pairs_next}
 use Rattle.search.specs.Places.{truth_at}
@@ -21,8 +21,8 @@ use Rattle.search.specs.declared.scan.Rest.TheVariants.{All, One, Off}
 use Rattle.search.specs.Scan.{cond_at, meet_of, meets, head_conditions, head_rest, weighted_rest}
 use Rattle.search.specs.Weigh.{met_at, breaker_of, body_rest, both_rest}
 use Rattle.search.proofs.ScanLaws.{off_stays}
-use Rattle.counting.specs.Counters.{index, Shaped, rest_number, weigh_number, open_at, bodies, first, list_length}
-use Rattle.counting.specs.Moves.{RowReadable, ListReadable, Weighable, Fit}
+use Rattle.counting.specs.Counters.{index, rest_number, weigh_number, open_at, bodies}
+use Rattle.counting.specs.Moves.{RowReadable, ListReadable, Fit}
 
 module _ (pool : List ℤ) (rows : List ℕ) (r : ℕ) where
   -- ---- the head

@@ -1,25 +1,24 @@
 -- The number of a rule with a weighted body: it depends on the values of the atoms that the rule names, and a list of such rules gets theirs. Assumes nothing.
 use mathlib.Core.Path.{◌≡◌, refl, sym, ap, ap₂, ◌∙◌}
-use mathlib.Core.Bool.{Bool, true, false, ◌&&◌}
+use mathlib.Core.Bool.{Bool, true, false}
 use mathlib.Core.List.{List, [], ◌∷◌}
 use mathlib.Core.Logic.{◌⊎◌, inl, inr}
-use Prim.Native.Nat.{ℕ, zero, suc, ◌+◌, ◌-◌, ◌*◌, ◌≤◌, ◌<◌, min}
+use Prim.Native.Nat.{ℕ, zero, suc, ◌+◌, ◌-◌, ◌≤◌, ◌<◌}
 use native.Mathlib.Omega.{arith}
-use lib.Dec.{eqb, ltb, leb}
-use lib.IntN.{ℤ, pos, negsuc, neg_ℤ, nat_abs}
-use lib.ListN.{length, get_or, set, length-set}
-use borrow.Author.Tests.{eqb-true, eqb-false, eq-eqb, ne_eqb}
+use lib.Dec.{eqb, ltb}
+use lib.IntN.{ℤ, pos, neg_ℤ, nat_abs}
+use lib.ListN.{get_or, set}
+use borrow.Author.Tests.{eqb-true, eqb-false}
 use Rattle.asp.specs.Sets.{pick, ind}
 use Rattle.asp.specs.Program.{Weighed}
-use Rattle.asp.specs.Tables.{span, is_choice, is_mixed, pair_at, pairs_at, bound_at, Row, row_at}
+use Rattle.asp.specs.Tables.{span, is_choice, is_mixed, pair_at, pairs_at, bound_at, Row}
 use Rattle.asp.proofs.Signed.{abs_neg}
 use Rattle.search.specs.Places.{truth_at}
 use Rattle.search.specs.declared.scan.Rest.{Rest}
-use Rattle.search.specs.declared.scan.Rest.TheVariants.{All, One, Off}
-use Rattle.search.specs.Scan.{cond_at, free_of, meet_of, meets, begins, head_conditions, head_rest, weighted_rest}
-use Rattle.search.specs.Weigh.{total, owed_pair, owed_at, pair_met, met_at, least_at, worth, breaker_of, body_rest}
+use Rattle.search.specs.declared.scan.Rest.TheVariants.{All, Off}
+use Rattle.search.specs.Scan.{cond_at, free_of, meet_of, meets, head_conditions}
+use Rattle.search.specs.Weigh.{owed_at, met_at, least_at, breaker_of, body_rest}
 use Rattle.search.proofs.ScanLaws.{off_stays}
-use Rattle.counting.specs.declared.counters.Marks.{Marks}
 use Rattle.counting.specs.Counters.{Counters, counters, rest_number, weigh_number, Bodies, number_of, put_marks, put_at, renew_at, weigh_from}
 use Rattle.counting.specs.Counts.{sum_from, count_from, MarksRight}
 use Rattle.counting.proofs.Marking.{put_marked, put_at_lem, put_other}

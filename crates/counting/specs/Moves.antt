@@ -1,11 +1,11 @@
 -- The moves of the trail, with the numbers of the rules beside it. Assumes nothing: these are definitions.
-use Rattle.std.specs.Prelude.{◌≡◌, Bool, true, false, List, ℕ, zero, suc, ◌+◌, ◌*◌, ◌≤◌, ◌<◌, eqb, ℤ, pos, neg_ℤ, nat_abs, length, get_or}
+use Rattle.std.specs.Prelude.{◌≡◌, true, false, List, ℕ, zero, suc, ◌+◌, ◌*◌, ◌≤◌, ◌<◌, eqb, ℤ, pos, neg_ℤ, nat_abs, length, get_or}
 use Rattle.asp.specs.Sets.{pick}
 use Rattle.asp.specs.Tables.{is_choice, is_weighted, row_at}
 use Rattle.search.specs.declared.trail.Places.{Places}
-use Rattle.search.specs.Places.{places, side_of, put_of, drop_of}
+use Rattle.search.specs.Places.{side_of, put_of, drop_of}
 use Rattle.counting.specs.declared.counters.Index.{Index}
-use Rattle.counting.specs.Counters.{Shaped, Counters, counters, first, list_length, decide_of, release_of, Bodies, weigh_of}
+use Rattle.counting.specs.Counters.{Shaped, Counters, first, list_length, decide_of, release_of, Bodies, weigh_of}
 
 pub record CountedTrail : Type 0 where
   pub trail : Places

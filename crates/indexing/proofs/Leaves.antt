@@ -6,36 +6,35 @@ use mathlib.Core.Logic.{◌⊎◌, inl, inr, ⊎_elim}
 use Prim.Native.Nat.{ℕ, zero, suc, ◌+◌, ◌-◌, ◌*◌, ◌≤◌, ◌<◌}
 use native.Mathlib.Omega.{arith}
 use lib.Dec.{T, eqb, ltb, leb, eqb→eq}
-use lib.IntN.{ℤ, pos, negsuc, neg_ℤ, nat_abs}
-use lib.ListN.{length, get_or}
-use mir.Facts.{and_yes, yes_and, or_yes}
+use lib.IntN.{ℤ, pos, negsuc, nat_abs}
+use lib.ListN.{get_or}
+use mir.Facts.{and_yes, or_yes}
 use borrow.Author.Tests.{eqb-true, eqb-false, ltb-true, ltb-false, lt-ltb, le-ltb, eq-eqb, ne_eqb}
-use Rattle.asp.specs.Sets.{Set, Sub, In, Only, set_of, pick, same, ind}
-use Rattle.asp.specs.Program.{Weighed, Rule, Head, constraint, plain, choice, All, LiteralIn, RuleIn}
-use Rattle.asp.specs.Stable.{holds, holds_in, all_hold, counts, body_holds, member, head_adds, rule_adds, adds, constraint_fails, any_violated, Stable, Closed, closure, is_stable}
-use Rattle.asp.specs.Tables.{span, named, literals_at, atoms_at, is_choice, is_weighted, is_mixed, pairs_at, bound_at, Row, row_at, head_at, body_at, rule_at, rules_of, Formed}
+use Rattle.asp.specs.Sets.{Set, Sub, In, set_of, pick, same, ind}
+use Rattle.asp.specs.Program.{Weighed, All, LiteralIn}
+use Rattle.asp.specs.Stable.{holds, holds_in, all_hold, counts, body_holds, member, head_adds, rule_adds, adds, constraint_fails, any_violated, Stable, closure, is_stable}
+use Rattle.asp.specs.Tables.{span, named, literals_at, atoms_at, is_choice, is_weighted, is_mixed, pairs_at, bound_at, Row, row_at, head_at, rule_at, rules_of, Formed}
 use Rattle.asp.proofs.Pairs.{body_weighted, body_normal}
 use Rattle.asp.proofs.Rules.{head_choice, head_none, head_plain}
 use Rattle.asp.proofs.Stability.{stable_yes, closure_least, rule_mono, head_in}
-use Rattle.asp.specs.Growth.{KeptBy, Grown}
+use Rattle.asp.specs.Growth.{KeptBy}
 use Rattle.asp.proofs.Growing.{grown_none}
 use Rattle.asp.proofs.Rounds.{Round, round_next, Closing}
-use Rattle.asp.proofs.Signed.{clash, abs_neg}
+use Rattle.asp.proofs.Signed.{clash}
 use Rattle.search.specs.Places.{truth_of, truth_at}
-use Rattle.search.specs.Scan.{Rules, rules, row_of, cond_at, meet_of, meets, head_conditions, head_rest, weighted_rest}
+use Rattle.search.specs.Scan.{Rules, rules, cond_at, meet_of, meets, head_conditions, head_rest, weighted_rest}
 use Rattle.search.specs.Weigh.{owed_at, met_at, least_at, body_rest}
 use Rattle.search.specs.declared.scan.Rest.{Rest}
-use Rattle.search.specs.declared.scan.Rest.TheVariants as Rest
 use Rattle.search.proofs.ScanLaws.{off_stays}
 use Rattle.search.proofs.Formed.{named_is, rule_in, atom_in_lem}
 use Rattle.counting.specs.declared.counters.Index.{Index}
 use Rattle.counting.specs.Counters.{Counters, first, list_length, rest_number, weigh_number}
-use Rattle.counting.specs.Counts.{sum_from, count_from, times_in, weigh, term, key_of, list_of, Tracks}
+use Rattle.counting.specs.Counts.{sum_from, times_in, weigh, term, key_of, list_of}
 use Rattle.counting.proofs.Sums.{sum_none}
 use Rattle.counting.proofs.Support.{supported}
-use Rattle.indexing.specs.Sorting.{spot_of, weighed_in, mid_in, lo_in, hi_in, occurs, stands, Readied, Sorted}
-use Rattle.indexing.specs.Leaf.{Whole, Unbroken, Leaf, Supports, Unsupported}
-use Rattle.indexing.proofs.Indexing.{StandsAt, in_list, listed, lo_plain, lo_choice, seen_there, lo_hi, indexed}
+use Rattle.indexing.specs.Sorting.{spot_of, weighed_in, mid_in, lo_in, hi_in, stands}
+use Rattle.indexing.specs.Leaf.{Whole, Leaf, Unsupported}
+use Rattle.indexing.proofs.Indexing.{StandsAt, in_list, listed, lo_plain, lo_choice, seen_there, indexed}
 
 -- ---- sums with one term
 

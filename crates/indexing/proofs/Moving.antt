@@ -2,19 +2,18 @@
 use mathlib.Core.Path.{◌≡◌, refl, sym, ap, ◌∙◌}
 use mathlib.Core.Bool.{Bool, true, false}
 use mathlib.Core.List.{List, [], ◌∷◌}
-use Prim.Native.Nat.{ℕ, zero, suc, ◌+◌, ◌-◌, ◌*◌, ◌≤◌, ◌<◌}
+use Prim.Native.Nat.{ℕ, zero, suc, ◌+◌, ◌≤◌, ◌<◌}
 use native.Mathlib.Omega.{arith}
-use lib.Dec.{T, eqb, leb, eqb→eq}
+use lib.Dec.{eqb, leb, eqb→eq}
 use lib.IntN.{ℤ, nat_abs}
-use lib.ListN.{length, get_or, replicate}
+use lib.ListN.{get_or, replicate}
 use borrow.Author.Tests.{eqb-true, eqb-false, leb-true}
-use Rattle.asp.specs.Sets.{In, Only, set_of, pick}
-use Rattle.asp.specs.Tables.{Formed}
+use Rattle.asp.specs.Sets.{In, pick}
 use Rattle.search.specs.declared.trail.Places.{Places}
 use Rattle.search.specs.Places.{places, Good, SoundTrail, side_of, value_on, trail_of, back_of}
 use Rattle.asp.specs.Literal.{is_negative}
 use Rattle.asp.proofs.Signed.{clash}
-use Rattle.search.specs.Trail.{Trail, literal_of, on, FormedTrail}
+use Rattle.search.specs.Trail.{Trail, literal_of, FormedTrail}
 use Rattle.search.specs.Scan.{Rules, rules, is_all, note_of, scan_from, scan_of, rest_of, Readable}
 use Rattle.search.specs.Soft.{AssumedEntries, violated_of}
 use Rattle.search.specs.Branch.{branch_of}
@@ -38,8 +37,7 @@ use Rattle.counting.specs.Counters.{index, Counters, counters, Bodies, bodies}
 use Rattle.counting.specs.Moves.{CountedTrail, counted_trail, Fit, back_all}
 use Rattle.counting.specs.Counts.{Tracks, Indexed}
 use Rattle.stepping.proofs.StepLaws.{back_trail, counted_back, indexed_weighable}
-use Rattle.indexing.specs.Sorting.{Readied, Sorted}
-use Rattle.indexing.specs.Leaf.{Whole, Unbroken, Leaf, Indexes, Equipped}
+use Rattle.indexing.specs.Leaf.{Whole, Leaf, Indexes, Equipped}
 use Rattle.indexing.proofs.Indexing.{indexed}
 
 module _ {g : Rules} {o h : Index} {v : List ℕ} {t : Counters} (x : Equipped g o h v t) where

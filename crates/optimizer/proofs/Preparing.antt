@@ -1,22 +1,22 @@
 -- What is prepared for a program, and that every program in shape has it. Assumes nothing.
 use mathlib.Core.Path.{◌≡◌, refl, sym, ap, ap₂, ◌∙◌}
-use mathlib.Core.Bool.{Bool, true, false, not, ◌&&◌, ◌||◌}
+use mathlib.Core.Bool.{Bool, true, false, not}
 use mathlib.Core.List.{List, [], ◌∷◌}
 use mathlib.Core.Logic.{◌⊎◌, inl, inr}
-use Prim.Native.Nat.{ℕ, zero, suc, ◌+◌, ◌≤◌, ◌<◌}
+use Prim.Native.Nat.{ℕ, ◌≤◌}
 use native.Mathlib.Omega.{arith}
 use native.Mathlib.Nat.{zero-add}
 use lib.Dec.{T, eqb, ltb}
-use lib.ListN.{length, get_or, get_or-eq_default, replicate}
+use lib.ListN.{get_or-eq_default, replicate}
 use borrow.Author.Tests.{ltb-true, ltb-false}
-use Rattle.asp.specs.Sets.{Set, In, set_of, ind}
+use Rattle.asp.specs.Sets.{In, set_of, ind}
 use Rattle.asp.specs.Program.{Head, constraint, plain, choice, Rule, All, HeadIn, RuleIn}
 use Rattle.asp.specs.Penalty.{penalties}
 use Rattle.asp.specs.Tables.{span}
 use mir.Facts.{and_yes, or_yes}
 use Rattle.asp.proofs.Stability.{member_in}
 use Rattle.cores.proofs.Spans.{length_span, get_d_span}
-use Rattle.choosing.specs.First.{is_bodiless, chosen_by, freely_chosen_by, freely_chosen, paid_for, tried_first}
+use Rattle.choosing.specs.First.{is_bodiless, chosen_by, freely_chosen_by, freely_chosen, paid_for}
 use Rattle.counting.specs.declared.counters.Index.{Index}
 use Rattle.indexing.specs.Leaf.{no_index}
 use Rattle.indexing.proofs.Lists.{lists_exist}

@@ -3,7 +3,6 @@ use mathlib.Core.Path.{◌≡◌, refl, subst}
 use mathlib.Core.Logic.{◌≢◌, ◌⊎◌, inl, inr}
 use mathlib.Core.Bool.{Bool, true, false}
 use mathlib.Core.List.{List, [], ◌∷◌}
-use mathlib.Core.Option.{some}
 use Prim.Native.Nat.{ℕ, zero, suc, ◌+◌, ◌*◌, ◌≤◌, ◌<◌, zero-le, suc-le-suc}
 use native.Mathlib.Nat.{mul-le-mul_right}
 use native.Mathlib.Omega.{arith}
@@ -21,7 +20,7 @@ use Rattle.search.proofs.Spent.{spent, spent_le}
 use Rattle.search.proofs.Search as search
 use Rattle.cores.specs.Soft.{violated}
 use Rattle.cores.specs.Level.{opened, greatest, under, room}
-use Rattle.cores.specs.Identity.{Good, Core, problem, remaining}
+use Rattle.cores.specs.Identity.{Core, problem, remaining}
 use Rattle.cores.proofs.Sums.{below_or}
 use Rattle.cores.proofs.Record.{kept, some_violated}
 use Rattle.cores.proofs.Open.{opened_good, charge_le}

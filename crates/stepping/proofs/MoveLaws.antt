@@ -18,7 +18,7 @@ use Rattle.search.specs.Places.{places, side_of, put_of, drop_of, Good}
 use Rattle.search.proofs.PlacesLaws.{good_drop}
 use Rattle.counting.specs.declared.counters.Marks.{Marks}
 use Rattle.counting.specs.declared.counters.Index.{Index}
-use Rattle.counting.specs.Counters.{index, Shaped, Counters, counters, decide_of, release_of, Bodies, weigh_of}
+use Rattle.counting.specs.Counters.{index, Counters, counters, decide_of, release_of, Bodies, weigh_of}
 use Rattle.counting.specs.Moves.{CountedTrail, counted_trail, Fit, put_all, drop_all, back_all_from, back_all}
 use Rattle.counting.proofs.CounterLaws.{release_len, decide_len, weigh_len, weigh_none}
 

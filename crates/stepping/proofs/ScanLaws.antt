@@ -3,14 +3,13 @@ use mathlib.Core.Path.{◌≡◌, refl, sym, ap, ◌∙◌}
 use mathlib.Core.Bool.{Bool, true, false, ◌&&◌}
 use mathlib.Core.List.{List, [], ◌∷◌}
 use Prim.Native.Nat.{ℕ, zero, suc, ◌+◌, ◌-◌, ◌*◌, ◌^◌, ◌≤◌, ◌<◌}
-use native.Mathlib.Nat.{sub-zero}
 use native.Mathlib.Omega.{arith}
 use mir.Syntax.{w64}
 use mir.Val.{Fits}
 use lib.Dec.{eqb, ltb}
-use lib.IntN.{ℤ, pos, neg_ℤ, nat_abs}
+use lib.IntN.{ℤ, pos, nat_abs}
 use lib.ListN.{length, get_or}
-use borrow.Author.Tests.{eqb-true, eqb-false, ltb-true, ltb-false, lt-ltb, le-ltb, eq-eqb, ne_eqb}
+use borrow.Author.Tests.{eqb-true, eqb-false, ltb-true, ltb-false, eq-eqb, ne_eqb}
 use Rattle.asp.specs.Sets.{pick, ind}
 use Rattle.asp.specs.Literal.{same_ℤ}
 use Rattle.asp.specs.Tables.{span, is_choice, is_weighted}
@@ -22,11 +21,11 @@ use Rattle.search.specs.declared.scan.Found.{Found}
 use Rattle.search.specs.declared.scan.Found.TheVariants.{Broken, Breaker, Clear}
 use Rattle.search.specs.Scan.{Rules, rules, row_of, Readable, cond_at, conditions, free_of, meet_of, meets, begins, head_rest, weighted_rest, rest_of, is_all, note_of, scan_from, scan_of}
 use Rattle.search.specs.Weigh.{both_rest}
-use Rattle.search.proofs.ScanLaws.{off_stays, cond_small}
+use Rattle.search.proofs.ScanLaws.{off_stays}
 use Rattle.counting.specs.declared.counters.Marks.{Marks}
 use Rattle.counting.specs.Counters.{counters, marks, bodies}
 use Rattle.counting.specs.Moves.{RowReadable}
-use Rattle.counting.specs.Counts.{sum_from, broken_many, MarksRight, Tells, Told, NoneBelow, NoneIn, SpotSays, spotted_of, Spotted}
+use Rattle.counting.specs.Counts.{MarksRight, Tells, Told, NoneBelow, NoneIn, SpotSays, spotted_of, Spotted}
 use Rattle.counting.proofs.Sums.{sum_part, sum_none}
 
 -- ---- small functions

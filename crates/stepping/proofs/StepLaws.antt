@@ -1,12 +1,12 @@
 -- The ways that a test and a step go, from what their calls say. Assumes nothing.
-use mathlib.Core.Path.{◌≡◌, refl, sym, ap, ◌∙◌}
+use mathlib.Core.Path.{◌≡◌, refl, ap, ◌∙◌}
 use mathlib.Core.Bool.{Bool, true, false}
 use mathlib.Core.List.{List}
 use Prim.Native.Nat.{ℕ, zero, suc, ◌+◌, ◌≤◌, ◌<◌}
 use native.Mathlib.Omega.{arith}
 use lib.Dec.{eqb}
 use lib.IntN.{ℤ, pos, neg_ℤ, nat_abs}
-use lib.ListN.{length, get_or}
+use lib.ListN.{get_or}
 use mir.Syntax.{w32}
 use mir.Val.{to_z, of_z}
 use borrow.Author.Tests.{eq-eqb}
@@ -17,17 +17,17 @@ use Rattle.search.specs.declared.scan.Found.TheVariants.{Broken, Breaker, Clear}
 use Rattle.search.specs.declared.step.Tested.{Tested}
 use Rattle.search.specs.declared.step.Tested.TheVariants.{RuleBroken, Full, SoftViolated, Open}
 use Rattle.search.specs.declared.trail.Places.{Places}
-use Rattle.search.specs.Places.{places, put_of, drop_of, back_from, back_of, Good}
+use Rattle.search.specs.Places.{places, put_of, drop_of, back_from, Good}
 use Rattle.search.specs.Scan.{Rules, rules, row_of, Readable, scan_of}
 use Rattle.search.specs.Soft.{AssumedEntries, FormedSoft}
-use Rattle.search.specs.Branch.{DecidedBelow, LowestIs, lowest_of}
+use Rattle.search.specs.Branch.{DecidedBelow, LowestIs}
 use Rattle.search.specs.Step.{unbroken, test_by, test_of, stepped, step_of}
 use Rattle.search.proofs.Formed.{readable}
-use Rattle.search.proofs.StepLaws.{step_broken, step_full, step_violated, step_open, open_room, open_small}
+use Rattle.search.proofs.StepLaws.{step_broken, step_full, step_violated, step_open, open_small}
 use Rattle.counting.specs.declared.counters.Marks.{Marks}
 use Rattle.counting.specs.declared.counters.Index.{Index}
 use Rattle.counting.specs.Counters.{index, Counters, counters, marks, Bodies, bodies, first, list_length}
-use Rattle.counting.specs.Moves.{CountedTrail, counted_trail, RowReadable, Weighable, Fit, put_all, drop_all, back_all_from, back_all}
+use Rattle.counting.specs.Moves.{CountedTrail, counted_trail, Weighable, Fit, put_all, drop_all, back_all_from, back_all}
 use Rattle.counting.specs.Counts.{times_in, MarksRight, Tracks, Indexed, Told}
 use Rattle.counting.proofs.Sums.{sum_part}
 use Rattle.counting.proofs.Telling.{told}

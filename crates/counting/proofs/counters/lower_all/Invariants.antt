@@ -1,5 +1,4 @@
 use Prim.Native.Nat.{◌-◌}
-use borrow.Author.Rules.{rules}
 use Rattle.counting.specs.Counters.{counters}
 use Rattle.counting.proofs.CounterLaws.{Lowering}
 use Rattle.counting.proofs.counters.lower_all.Given as goal

@@ -1,4 +1,3 @@
-use borrow.Author.Rules.{rules}
 use Prim.Native.Nat.{◌-◌}
 use Rattle.counting.specs.Counters.{counters, bodies}
 use Rattle.counting.proofs.CounterLaws.{Weighing}

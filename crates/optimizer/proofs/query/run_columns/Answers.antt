@@ -4,12 +4,11 @@ use Prim.Native.Nat.{ℕ, ◌≤◌, ◌<◌}
 use lib.ListN.{length}
 use Rattle.asp.specs.Program.{All}
 use Rattle.search.specs.Places.{places}
-use Rattle.cores.proofs.Columns.{small_at}
 use Rattle.cores.proofs.Unpacked.{cut_long}
 use Rattle.advancing.specs.Source.{source, level_tables}
 use Rattle.advancing.specs.Turn.{QueryTables, blame_tables, turns_of}
 use Rattle.advancing.specs.Ready.{ReadyQuery, GoodBlame}
-use Rattle.optimizer.proofs.Fronts.{assumed_is, assumed_many, assumed_reach, spots_reach, wished_reach, fronts_query}
+use Rattle.optimizer.proofs.Fronts.{assumed_is, assumed_reach, spots_reach, wished_reach, fronts_query}
 use borrow.Author.Rules.{rules}
 use Rattle.optimizer.proofs.query.run_columns.Goals as goal
 

@@ -2,12 +2,10 @@ use mathlib.Core.Path.{◌≡◌, ap, sym, ◌∙◌}
 use mathlib.Core.List.{List}
 use Prim.Native.Nat.{ℕ, ◌<◌}
 use native.Mathlib.Omega.{arith}
-use Rattle.search.specs.declared.trail.Places.{Places}
 use Rattle.search.specs.Places.{places}
 use Rattle.cores.specs.Judging.{judging}
-use Rattle.advancing.specs.declared.state.Blame.{Blame}
-use Rattle.advancing.specs.Source.{Source, source, level_tables}
-use Rattle.advancing.specs.Turn.{QueryTables, query_tables, blame_tables, judge_full, blamed_of}
+use Rattle.advancing.specs.Source.{source, level_tables}
+use Rattle.advancing.specs.Turn.{query_tables, blame_tables, judge_full, blamed_of}
 use Rattle.advancing.specs.Ready.{softs}
 use Rattle.advancing.proofs.Stepping.{blame_room, violated_in_lem}
 use Rattle.optimizer.proofs.Turning.{backed_is, judged_wanted, judged_dead, judged_violated}

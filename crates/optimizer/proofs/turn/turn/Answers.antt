@@ -1,23 +1,17 @@
-use mathlib.Core.Path.{◌≡◌, refl, ap, sym, ◌∙◌}
+use mathlib.Core.Path.{refl, ap, sym, ◌∙◌}
 use Prim.Native.Nat.{◌<◌}
 use native.Mathlib.Omega.{arith}
 use lib.ListN.{length, get_or}
-use Rattle.search.specs.declared.trail.Places.{Places}
 use Rattle.search.specs.Places.{places}
-use Rattle.asp.specs.Sets.{set_of}
-use Rattle.search.specs.declared.step.Tested.{Tested}
-use Rattle.search.specs.Soft.{assumed_entries}
-use Rattle.search.specs.Step.{Stepped, stepped, step_of}
+use Rattle.search.specs.Step.{Stepped}
 use Rattle.search.proofs.Kept.{after_step}
 use Rattle.cores.specs.Judging.{judging}
-use Rattle.advancing.specs.declared.state.Blame.{Blame}
-use Rattle.advancing.specs.Source.{Source, source, level_tables, rule_tables}
-use Rattle.advancing.specs.Turn.{QueryTables, query_tables, blame_tables, assumed_by}
+use Rattle.advancing.specs.Source.{source, level_tables}
+use Rattle.advancing.specs.Turn.{query_tables, blame_tables, assumed_by}
 use Rattle.advancing.specs.Ready.{softs}
 use Rattle.advancing.proofs.Stepping.{all_at, entry_room, soft_formed, violated_entry}
 use Rattle.optimizer.proofs.Turning.{step_by, backed_is, turn_broken, turn_violated, turn_open, turn_full}
 use Rattle.indexing.proofs.Moving.{full_leaf}
-use borrow.Author.Rules.{rules}
 use Rattle.optimizer.proofs.turn.turn.Goals as goal
 
 pub blame_entry-f-requires : goal.blame_entry-f-requires

@@ -1,5 +1,4 @@
 use borrow.Author.Rules.{rules as needs}
-use Rattle.search.specs.Scan.{rules}
 use Rattle.stepping.proofs.ScanLaws.{inner_start, inner_next, broken_here, breaker_here}
 use Rattle.stepping.proofs.scan.first_with.Goals as goal
 
