@@ -126,7 +126,8 @@ module _ {A : Type 0} (P : A → Type 0) (lay : A → List ℤ) (row : ℕ → (
       let e : before ++ ((lay x ++ laid lay xs) ++ after) ≡ before ++ (lay x ++ (laid lay xs ++ after)) = rw (append_assoc (lay x) (laid lay xs) after) in
       let d : (before ++ lay x) ++ (laid lay xs ++ after) ≡ before ++ (lay x ++ (laid lay xs ++ after)) = append_assoc before (lay x) (laid lay xs ++ after) in
       let r = rows_back at f (before ++ lay x) xs after h.1 in
-      rw (e, f before x (laid lay xs ++ after) h.0) (ap (λ (ys : List A). x ∷ ys) (rw (length-append before (lay x), d) at r))
+      subst (λ (ys : List ℤ). map (at ys) (rows (length before) (x ∷ xs) h) ≡ x ∷ xs) (sym e)
+      (rw (f before x (laid lay xs ++ after) h.0) (ap (λ (ys : List A). x ∷ ys) (rw (length-append before (lay x), d) at r)))
 
   -- what is so of the row of every item among others is so of all
   rows_hold : (Q : List ℤ → Row → Type 0) → ((xs : List ℤ) (x : A) (zs : List ℤ) (p : P x) → Q (xs ++ (lay x ++ zs)) (row (length xs) x p))
@@ -137,7 +138,7 @@ module _ {A : Type 0} (P : A → Type 0) (lay : A → List ℤ) (row : ℕ → (
       let e : before ++ ((lay x ++ laid lay xs) ++ after) ≡ before ++ (lay x ++ (laid lay xs ++ after)) = rw (append_assoc (lay x) (laid lay xs) after) in
       let d : (before ++ lay x) ++ (laid lay xs ++ after) ≡ before ++ (lay x ++ (laid lay xs ++ after)) = append_assoc before (lay x) (laid lay xs ++ after) in
       let r = rows_hold Q f (before ++ lay x) xs after h.1 in
-      rw e (f before x (laid lay xs ++ after) h.0, rw (length-append before (lay x), d) at r)
+      subst (λ (ys : List ℤ). All (Q ys) (rows (length before) (x ∷ xs) h)) (sym e) (f before x (laid lay xs ++ after) h.0, rw (length-append before (lay x), d) at r)
 
   -- the table of n numbers with these rows at its front
   module _ (n : ℕ) (xs : List A) (h : All P xs) where

@@ -85,7 +85,7 @@ fn one_line(
 }
 
 // What the whole text leads to.
-#[derive(Drop)]
+#[derive(Clone, Copy)]
 pub enum TextVerdict {
     Taken { counts: Counts },
     Refused { code: u32, line: usize },

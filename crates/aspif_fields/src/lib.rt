@@ -1,5 +1,7 @@
 // The fields of aspif 1.0.0's lines, as document 01 restricts it: numbers, atoms and literals, how a rule opens, and pairs, read from a line; nothing is stored.
 // Each reader works on one line and a position in it; a position stands for the rest of the line.
+#![tactic(auto)]
+
 pub mod token; // numbers by their form
 pub mod field; // numbers, atoms and literals, by form, range and accepted part
 pub mod opening; // `h m`: how a rule opens

@@ -1,5 +1,7 @@
 // The statements of aspif 1.0.0, as document 01 restricts it: rules, minimise lines and symbols, read from a line into lent tables, field by field (aspif_fields).
 // Each reader works on one line and a position in it; a position stands for the rest of the line.
+#![tactic(auto)]
+
 pub mod room; // the sizes of the tables
 pub mod members; // the atoms of a head, the literals of a body or condition, into a pool
 pub mod weighted; // k pairs of literal and weight, into a pool

@@ -1,5 +1,5 @@
 // What is found in a list of places: the first that is violated.
-#[derive(Drop)]
+#[derive(Clone, Copy)]
 pub enum Judged {
     Met,
     Violated(usize),

@@ -11,7 +11,7 @@ use crate::softs::put_soft;
 use asp::penalty;
 
 // A number stands between two tables: the compiler then keeps each table apart, and copies one where one changes.
-#[derive(Drop)]
+#[derive(Clone, Copy)]
 pub struct LevelTables {
     pub softs: [Soft; 4096],
     pub count: usize,

@@ -106,7 +106,7 @@ pub fn with_core(t: LevelTables, core: &[u16], s: u32) -> LevelTables
     }
 }
 
-#[derive(Drop)]
+#[derive(Clone, Copy)]
 pub struct Recorded {
     pub full: bool,
     pub tables: LevelTables,

@@ -1,4 +1,6 @@
 // One optimization: levels over strata over queries over the trail. Document 01, "Question and path" and "Wishes and cores".
+#![tactic(auto)]
+
 pub mod blame;
 pub mod finish;
 pub mod judge;
