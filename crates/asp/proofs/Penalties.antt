@@ -42,7 +42,7 @@ swap a b c d = simp (+ℤ_assoc, +ℤ_comm, left_comm)
 
 pub paid_atom : (l w : ℤ) → nat_abs (paid_literal l w) ≡ nat_abs l
 paid_atom l (pos w) = refl
-paid_atom l (negsuc w) = simp abs_neg
+paid_atom l (negsuc w) = search abs_neg
 
 -- ---- one entry: "It counts as a fixed -w and a wish of weight w for the literal itself."
 
