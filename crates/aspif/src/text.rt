@@ -15,7 +15,7 @@ use aspif_tables::table::{Counts, fits};
 const MOST_BYTES: usize = 65536; // document 01: "At most 65,536 bytes."
 
 // What one line leads to: a refusal on it or on the next, the end, or the next line.
-#[derive(Drop)]
+#[derive(Clone, Copy)]
 pub enum Onward {
     Refused { code: u32, later: usize },
     Accept { counts: Counts },
@@ -215,7 +215,7 @@ fn read_text(
 }
 
 // A program as it is stored: its tables, and how far each is filled. The text is that of the load less its comment lines.
-#[derive(Drop)]
+#[derive(Clone, Copy)]
 pub struct Stored {
     pub text: Text,
     pub pool: Pool,
@@ -229,14 +229,14 @@ pub struct Stored {
     pub counts: Counts,
 }
 
-#[derive(Drop)]
+#[derive(Clone, Copy)]
 pub enum Loading {
     Accepted,
     RefusedAt { number: u32, line: usize },
 }
 
 // What a load gives: where it is refused, an empty program.
-#[derive(Drop)]
+#[derive(Clone, Copy)]
 pub struct Loaded {
     pub stored: Stored,
     pub answer: Loading,

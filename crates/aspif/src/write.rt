@@ -4,7 +4,7 @@ ghost use Rattle.aspif_lines.specs.Seen.{bytes_at};
 ghost use Rattle.aspif.specs.Write.{written_of, buffer_of};
 
 // The length of what was written; or refusal 8, with the length that is needed.
-#[derive(Drop)]
+#[derive(Clone, Copy)]
 pub enum Written {
     Length { length: usize },
     Short { needed: usize },

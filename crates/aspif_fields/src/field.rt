@@ -10,7 +10,7 @@ pub const MOST_ATOMS: u32 = 1024; // document 01: "atom 1 to 1,024"
 
 pub const MOST_COUNT: u32 = 1024; // "each count 0 to 1,024"
 
-#[derive(Drop)]
+#[derive(Clone, Copy)]
 pub enum Number {
     Value { value: u32, next: usize },
     Refused { code: u32 },
@@ -28,7 +28,7 @@ impl Number {
     }
 }
 
-#[derive(Drop)]
+#[derive(Clone, Copy)]
 pub enum Signed {
     Whole { value: i32, next: usize },
     Refused { code: u32 },

@@ -6,7 +6,7 @@ ghost use Rattle.aspif_fields.specs.SeenFields.{refusal, seen_opens, OpensSmall}
 use super::field::{MOST_COUNT, Number, read_natural, size};
 
 // How a rule opens: whether it is a choice, and how many head atoms follow.
-#[derive(Drop)]
+#[derive(Clone, Copy)]
 pub enum Opens {
     Open {
         choice: bool,

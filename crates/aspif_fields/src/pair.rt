@@ -10,7 +10,7 @@ const MOST_WEIGHT: u32 = 1000000; // order 1: "Weights now run from -1,000,000 t
 const MOST_BODY_WEIGHT: u32 = 1000000; // order 2: "each weight 0 to 1,000,000, and a minus .. is malformed"
 
 // A literal and its weight.
-#[derive(Drop)]
+#[derive(Clone, Copy)]
 pub enum Pair {
     Paired {
         literal: i32,

@@ -4,14 +4,14 @@ ghost use Rattle.aspif_fields.specs.Fields.{next, is_digit, digits, decimal, ove
 ghost use Rattle.aspif_fields.specs.SeenFields.{capped, seen_token, capped_signed, seen_signed_token};
 
 // The form of a number: its value, or 1,000,000,001 if that is less, and the position after it.
-#[derive(Drop)]
+#[derive(Clone, Copy)]
 pub enum Token {
     Digits { value: u32, next: usize },
     Malformed,
 }
 
 // The same of a number that may have a minus.
-#[derive(Drop)]
+#[derive(Clone, Copy)]
 pub enum SignedToken {
     Digits {
         minus: bool,
@@ -27,7 +27,7 @@ const BEYOND: u32 = 1000000001;
 // No digit more after a greater value is below it.
 const TENTH: u32 = 100000000;
 
-#[derive(Drop)]
+#[derive(Clone, Copy)]
 pub struct Scanned {
     pub value: u32,
     pub next: usize,

@@ -11,7 +11,7 @@ use aspif_fields::field::{MOST_COUNT, Number, read_natural, size, whole};
 const MOST_BOUND: u32 = 1000000000; // order 2: "Bound is 0 to 1,000,000,000"
 
 // A body in the pool: whether it is weighted, and then whether some atom stands with both signs in it; how many literals, where it ends, the highest atom so far.
-#[derive(Drop)]
+#[derive(Clone, Copy)]
 pub enum BodyPart {
     Body {
         weighted: bool,

@@ -8,7 +8,7 @@ use asp::literal::atom;
 use aspif_fields::field::{Signed, read_atom, read_literal};
 
 // A list read up to a position, with the highest atom so far; or the refusal in it.
-#[derive(Drop)]
+#[derive(Clone, Copy)]
 pub enum Listed {
     Upto { next: usize, top: usize },
     Refused { code: u32 },

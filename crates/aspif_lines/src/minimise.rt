@@ -51,7 +51,7 @@ fn read_pairs(
 }
 
 // A minimise line: its entries are in the tables.
-#[derive(Drop)]
+#[derive(Clone, Copy)]
 pub enum MinimiseLine {
     Minimised {
         priority: i32,

@@ -23,7 +23,7 @@ fn kind_of(choice: bool, weighted: bool, mixed: bool) -> usize
 }
 
 // A rule of a row's kind, its head atoms and then its body in the pool.
-#[derive(Drop)]
+#[derive(Clone, Copy)]
 pub enum RuleLine {
     Ruled {
         kind: usize,

@@ -12,7 +12,7 @@ use aspif_fields::token::byte_at;
 const MOST_NAME: u32 = 64; // document 01: "a symbol's m 1 to 64"
 
 // Where a name ends. A byte outside 32 to 126, or none, is refusal 2.
-#[derive(Drop)]
+#[derive(Clone, Copy)]
 pub enum Name {
     Until { next: usize },
     Malformed,
@@ -53,7 +53,7 @@ fn read_name(s: &[u8], at: usize, m: usize) -> Name
 }
 
 // A symbol: its name is in the line, its condition in the pool.
-#[derive(Drop)]
+#[derive(Clone, Copy)]
 pub enum SymbolLine {
     Named {
         name: usize,

@@ -12,7 +12,7 @@ use aspif_lines::rule::{RuleLine, read_rule};
 use aspif_lines::symbol::{SymbolLine, read_symbol};
 
 // What a line leads to: a refusal, the end, or the tables with its statement.
-#[derive(Drop)]
+#[derive(Clone, Copy)]
 pub enum LineTurn {
     Refused { code: u32 },
     Last { counts: Counts },

@@ -4,79 +4,76 @@ use Prim.Native.Nat.{ℕ, ◌≤◌, ◌<◌}
 use lib.ListN.{length}
 use Rattle.asp.specs.Program.{All}
 use Rattle.search.specs.Places.{places}
+use Rattle.cores.proofs.Columns.{small_at}
 use Rattle.cores.proofs.Unpacked.{cut_long}
 use Rattle.advancing.specs.Source.{source, level_tables}
 use Rattle.advancing.specs.Turn.{QueryTables, blame_tables, turns_of}
 use Rattle.advancing.specs.Ready.{ReadyQuery, GoodBlame}
-use Rattle.optimizer.proofs.Fronts.{assumed_is, assumed_reach, spots_reach, wished_reach, fronts_query}
+use Rattle.optimizer.proofs.Fronts.{assumed_is, assumed_many, assumed_reach, spots_reach, wished_reach, fronts_query}
 use borrow.Author.Rules.{rules}
 use Rattle.optimizer.proofs.query.run_columns.Goals as goal
 
 pub slice_bounds-assumed-end : goal.slice_bounds-assumed-end
 slice_bounds-assumed-end c =
-    let reach : c.assumed-m.result ≤ length c.assumed-m.new.1.1.0 = assumed_reach _ _ (search rules) c.assumed-m.ensures in
+    let reach : c.assumed-m.result ≤ length c.assumed-m.new.places = assumed_reach _ _ (search rules) c.assumed-m.ensures in
     reach
 
 pub slice_bounds-entries-end : goal.slice_bounds-entries-end
 slice_bounds-entries-end c =
-    let reach : c.assumed-m.result ≤ length c.assumed-m.new.1.1.0 = assumed_reach _ _ (search rules) c.assumed-m.ensures in
+    let reach : c.assumed-m.result ≤ length c.assumed-m.new.places = assumed_reach _ _ (search rules) c.assumed-m.ensures in
     cut_long _ _ reach
 
 pub entries-k-requires-clause-all : goal.entries-k-requires-clause-all
 entries-k-requires-clause-all c =
-    let a = c.before in
-    let r = a.requires.0 in
+    let r = c.requires.ready_query in
     let e = c.assumed-m.ensures in
-    let few = a.requires.1.1.1.0.0 in
-    subst (λ (xs : List ℕ). All (λ (m : ℕ). m < length a.args.softs.now) xs) (sym (assumed_is _ _ few e)) r.assumed_in_lem
+    let few = c.requires.rests_len_bound.0 in
+    subst (λ (xs : List ℕ). All (λ (m : ℕ). m < length c.args.softs.now) xs) (sym (assumed_is _ _ few e)) r.assumed_in_lem
 
 pub slice_bounds-wished-end : goal.slice_bounds-wished-end
 slice_bounds-wished-end c =
-    let reach_wished : c.entries-k.result ≤ length c.entries-k.new.1.1.1.1.0 = wished_reach _ _ c.requires.rests_len_bound.0 c.assumed-m.ensures c.args.softs.now c.args.cores.now c.entries-k.ensures in
+    let reach_wished : c.entries-k.result ≤ length c.entries-k.new.wishes = wished_reach _ _ c.requires.rests_len_bound.0 c.assumed-m.ensures c.args.softs.now c.args.cores.now c.entries-k.ensures in
     reach_wished
 
 pub slice_bounds-run_lent-end : goal.slice_bounds-run_lent-end
 slice_bounds-run_lent-end c =
-    let reach_wished : c.entries-k.result ≤ length c.entries-k.new.1.1.1.1.0 = wished_reach _ _ c.requires.rests_len_bound.0 c.assumed-m.ensures c.args.softs.now c.args.cores.now c.entries-k.ensures in
+    let reach_wished : c.entries-k.result ≤ length c.entries-k.new.wishes = wished_reach _ _ c.requires.rests_len_bound.0 c.assumed-m.ensures c.args.softs.now c.args.cores.now c.entries-k.ensures in
     cut_long _ _ reach_wished
 
 pub slice_bounds-spots-end : goal.slice_bounds-spots-end
 slice_bounds-spots-end c =
-    let reach_spots : c.entries-k.result ≤ length c.entries-k.new.1.1.1.0 = spots_reach _ _ c.requires.rests_len_bound.0 c.assumed-m.ensures c.args.softs.now c.args.cores.now c.entries-k.ensures in
+    let reach_spots : c.entries-k.result ≤ length c.entries-k.new.places = spots_reach _ _ c.requires.rests_len_bound.0 c.assumed-m.ensures c.args.softs.now c.args.cores.now c.entries-k.ensures in
     reach_spots
 
 pub slice_bounds-run_lent-end-2 : goal.slice_bounds-run_lent-end-2
 slice_bounds-run_lent-end-2 c =
-    let reach_spots : c.entries-k.result ≤ length c.entries-k.new.1.1.1.0 = spots_reach _ _ c.requires.rests_len_bound.0 c.assumed-m.ensures c.args.softs.now c.args.cores.now c.entries-k.ensures in
+    let reach_spots : c.entries-k.result ≤ length c.entries-k.new.places = spots_reach _ _ c.requires.rests_len_bound.0 c.assumed-m.ensures c.args.softs.now c.args.cores.now c.entries-k.ensures in
     cut_long _ _ reach_spots
 
 pub slice_bounds-assumed-end-2 : goal.slice_bounds-assumed-end-2
 slice_bounds-assumed-end-2 c =
-    let reach : c.assumed-m.result ≤ length c.assumed-m.new.1.1.0 = assumed_reach _ _ (search rules) c.assumed-m.ensures in
+    let reach : c.assumed-m.result ≤ length c.assumed-m.new.places = assumed_reach _ _ (search rules) c.assumed-m.ensures in
     reach
 
 pub slice_bounds-run_lent-end-3 : goal.slice_bounds-run_lent-end-3
 slice_bounds-run_lent-end-3 c =
-    let reach : c.assumed-m.result ≤ length c.assumed-m.new.1.1.0 = assumed_reach _ _ (search rules) c.assumed-m.ensures in
+    let reach : c.assumed-m.result ≤ length c.assumed-m.new.places = assumed_reach _ _ (search rules) c.assumed-m.ensures in
     cut_long _ _ reach
 
 pub run_lent-requires-clause-ready_query : goal.run_lent-requires-clause-ready_query
 run_lent-requires-clause-ready_query c =
-    let a = c.before in
-    let S = source a.args.n a.args.pool.now a.args.rows.now a.args.rulecount (level_tables a.args.levels.now a.args.priorities.now a.args.literals.now a.args.weights.now a.args.entrycount) in
-    let q = fronts_query _ _ a.requires.1.1.1.0.0 c.assumed-m.ensures a.args.softs.now a.args.cores.now c.entries-k.ensures a.args.level a.args.lowers.now a.args.indices.now a.args.ends.now a.args.members.now in
-    subst (λ (x : QueryTables). ReadyQuery S x) (sym q) a.requires.0
+    let S = source c.args.n c.args.pool.now c.args.rows.now c.args.rulecount (level_tables c.args.levels.now c.args.priorities.now c.args.literals.now c.args.weights.now c.args.entrycount) in
+    let q = fronts_query _ _ c.requires.rests_len_bound.0 c.assumed-m.ensures c.args.softs.now c.args.cores.now c.entries-k.ensures c.args.level c.args.lowers.now c.args.indices.now c.args.ends.now c.args.members.now in
+    subst (λ (x : QueryTables). ReadyQuery S x) (sym q) c.requires.ready_query
 
 pub run_lent-requires-clause-good_blame : goal.run_lent-requires-clause-good_blame
 run_lent-requires-clause-good_blame c =
-    let a = c.before in
-    let S = source a.args.n a.args.pool.now a.args.rows.now a.args.rulecount (level_tables a.args.levels.now a.args.priorities.now a.args.literals.now a.args.weights.now a.args.entrycount) in
-    let q = fronts_query _ _ a.requires.1.1.1.0.0 c.assumed-m.ensures a.args.softs.now a.args.cores.now c.entries-k.ensures a.args.level a.args.lowers.now a.args.indices.now a.args.ends.now a.args.members.now in
-    subst (λ (x : QueryTables). GoodBlame x (blame_tables a.args.flags.now a.args.core.now a.args.from)) (sym q) a.requires.1.0
+    let S = source c.args.n c.args.pool.now c.args.rows.now c.args.rulecount (level_tables c.args.levels.now c.args.priorities.now c.args.literals.now c.args.weights.now c.args.entrycount) in
+    let q = fronts_query _ _ c.requires.rests_len_bound.0 c.assumed-m.ensures c.args.softs.now c.args.cores.now c.entries-k.ensures c.args.level c.args.lowers.now c.args.indices.now c.args.ends.now c.args.members.now in
+    subst (λ (x : QueryTables). GoodBlame x (blame_tables c.args.flags.now c.args.core.now c.args.from)) (sym q) c.requires.good_blame
 
 pub returns : goal.returns
 returns c =
-    let a = c.before in
-    let S = source a.args.n a.args.pool.now a.args.rows.now a.args.rulecount (level_tables a.args.levels.now a.args.priorities.now a.args.literals.now a.args.weights.now a.args.entrycount) in
-    let q = fronts_query _ _ a.requires.1.1.1.0.0 c.assumed-m.ensures a.args.softs.now a.args.cores.now c.entries-k.ensures a.args.level a.args.lowers.now a.args.indices.now a.args.ends.now a.args.members.now in
-    c.run_lent.ensures ∙ ap (λ (x : QueryTables). turns_of S x a.args.budget (places a.args.lits.now a.args.marks.now a.args.value.now a.args.len) (blame_tables a.args.flags.now a.args.core.now a.args.from)) q
+    let S = source c.args.n c.args.pool.now c.args.rows.now c.args.rulecount (level_tables c.args.levels.now c.args.priorities.now c.args.literals.now c.args.weights.now c.args.entrycount) in
+    let q = fronts_query _ _ c.requires.rests_len_bound.0 c.assumed-m.ensures c.args.softs.now c.args.cores.now c.entries-k.ensures c.args.level c.args.lowers.now c.args.indices.now c.args.ends.now c.args.members.now in
+    c.run_lent.ensures ∙ ap (λ (x : QueryTables). turns_of S x c.args.budget (places c.args.lits.now c.args.marks.now c.args.value.now c.args.len) (blame_tables c.args.flags.now c.args.core.now c.args.from)) q

@@ -20,69 +20,66 @@ use Rattle.indexing.proofs.Moving.{full_leaf}
 use borrow.Author.Rules.{rules}
 use Rattle.optimizer.proofs.turn.turn.Goals as goal
 
-abbrev given : tie.Start → Source
-given s =
-    source s.args.n s.args.pool.now s.args.rows.now s.args.rulecount
-    (level_tables s.args.levels.now s.args.priorities.now s.args.literals.now s.args.weights.now s.args.entrycount)
-
-abbrev asked : tie.Start → QueryTables
-asked s =
-    query_tables s.args.level s.args.lowers.now s.args.wished.now s.args.spots.now s.args.assumed.now
-    (judging s.args.softs.now s.args.cores.now s.args.indices.now s.args.ends.now s.args.members.now)
-
-abbrev there : tie.Start → Places
-there s = places s.args.lits.now s.args.marks.now s.args.value.now s.args.len
-
-abbrev accused : tie.Start → Blame
-accused s = blame_tables s.args.flags.now s.args.core.now s.args.from
-
-by_first : (s : tie.Start) {x : Tested} {t : Places}
-    → stepped x t ≡ step_of (rule_tables (given s)) (given s).n (assumed_entries (asked s).wished (accused s).flags (length (asked s).wished) (set_of s.args.tried.now)) (there s)
-    → stepped x t ≡ step_of (rule_tables (given s)) (given s).n (assumed_by (given s) (asked s) (accused s)) (there s)
-by_first s e = step_by (given s) (asked s) (there s) (accused s) s.requires.1.1.1.1 e
-
 pub blame_entry-f-requires : goal.blame_entry-f-requires
 blame_entry-f-requires c =
-    let s = c.before in
-    let r = s.requires.0 in
-    let g = s.requires.1.0 in
-    let i = c.t-1.given.0.0 in
-    let h : i < length s.args.spots.now = violated_entry r g (there s) s.requires.1.1.0 (sym (ap (λ (x : Stepped). x.tested) (by_first s c.step-o.ensures.0)) ∙ c.t-1.given.1) in
-    let p : get_or s.args.spots.now i 0 < softs (asked s) = all_at (λ m. m < softs (asked s)) s.args.spots.now r.places_in i h in
+    let S = source c.args.n c.args.pool.now c.args.rows.now c.args.rulecount (level_tables c.args.levels.now c.args.priorities.now c.args.literals.now c.args.weights.now c.args.entrycount) in
+    let Q = query_tables c.args.level c.args.lowers.now c.args.wished.now c.args.spots.now c.args.assumed.now (judging c.args.softs.now c.args.cores.now c.args.indices.now c.args.ends.now c.args.members.now) in
+    let P = places c.args.lits.now c.args.marks.now c.args.value.now c.args.len in
+    let A = blame_tables c.args.flags.now c.args.core.now c.args.from in
+    let r = c.requires.ready_query in
+    let g = c.requires.good_blame in
+    let i = c.in-SoftViolated.i in
+    let h : i < length c.args.spots.now = violated_entry r g P c.requires.sound_trail (sym (ap (λ (x : Stepped). x.tested) (step_by S Q P A c.requires.tries c.step-o.ensures.0)) ∙ c.in-SoftViolated.is) in
+    let p : get_or c.args.spots.now i 0 < softs Q = all_at (λ m. m < softs Q) c.args.spots.now r.places_in i h in
     (h, omega (arith, p, r.few), omega (arith, h, r.places_long, r.wished_few), g.from_in, g.flags_len, g.core_len, entry_room r g i h)
 
 pub judged-requires-clause-leaf : goal.judged-requires-clause-leaf
 judged-requires-clause-leaf c =
-    let s = c.before in
+    let S = source c.args.n c.args.pool.now c.args.rows.now c.args.rulecount (level_tables c.args.levels.now c.args.priorities.now c.args.literals.now c.args.weights.now c.args.entrycount) in
+    let Q = query_tables c.args.level c.args.lowers.now c.args.wished.now c.args.spots.now c.args.assumed.now (judging c.args.softs.now c.args.cores.now c.args.indices.now c.args.ends.now c.args.members.now) in
+    let P = places c.args.lits.now c.args.marks.now c.args.value.now c.args.len in
+    let A = blame_tables c.args.flags.now c.args.core.now c.args.from in
     let o = c.step-o in
-    let k = after_step s.args.pool.now s.args.rows.now s.args.rulecount s.args.n (assumed_by (given s) (asked s) (accused s)) (there s) s.requires.0.source.rules (soft_formed s.requires.0 s.requires.1.0) s.requires.1.1.0 (by_first s o.ensures.0) in
-    full_leaf (assumed_by (given s) (asked s) (accused s)) (there s) (by_first s o.ensures.0) c.enum_told-in-Full-1.given.1 k o.ensures.1
+    let k = after_step c.args.pool.now c.args.rows.now c.args.rulecount c.args.n (assumed_by S Q A) P c.requires.ready_query.source.rules (soft_formed c.requires.ready_query c.requires.good_blame) c.requires.sound_trail (step_by S Q P A c.requires.tries o.ensures.0) in
+    full_leaf (assumed_by S Q A) P (step_by S Q P A c.requires.tries o.ensures.0) c.in-Full.is k o.ensures.1
 
 pub returns-in-RuleBroken : goal.returns-in-RuleBroken
 returns-in-RuleBroken c =
-    let s = c.before in
+    let S = source c.args.n c.args.pool.now c.args.rows.now c.args.rulecount (level_tables c.args.levels.now c.args.priorities.now c.args.literals.now c.args.weights.now c.args.entrycount) in
+    let Q = query_tables c.args.level c.args.lowers.now c.args.wished.now c.args.spots.now c.args.assumed.now (judging c.args.softs.now c.args.cores.now c.args.indices.now c.args.ends.now c.args.members.now) in
+    let P = places c.args.lits.now c.args.marks.now c.args.value.now c.args.len in
+    let A = blame_tables c.args.flags.now c.args.core.now c.args.from in
     let o = c.step-o in (
-      turn_broken (given s) (asked s) (there s) (accused s) (by_first s o.ensures.0) c.enum_told-1.given.1
-          (backed_is o.new.1.1.1.1.1.1.1.1.1.1.1.1.0 o.new.1.1.1.1.1.1.1.1.1.1.1.1.1.0 o.new.1.1.1.1.1.1.1.1.1.1.1.1.1.1.0 o.result.len s.args.from s.args.flags.now s.args.core.now c.backed-b.ensures refl),
+      turn_broken S Q P A (step_by S Q P A c.requires.tries o.ensures.0) c.in-RuleBroken.is
+          (backed_is o.new.lits o.new.signs o.new.value o.result.len c.args.from c.args.flags.now c.args.core.now c.backed-b.ensures refl),
       o.ensures.1,
     )
 
 pub returns-in-SoftViolated : goal.returns-in-SoftViolated
 returns-in-SoftViolated c =
-    let s = c.before in
+    let S = source c.args.n c.args.pool.now c.args.rows.now c.args.rulecount (level_tables c.args.levels.now c.args.priorities.now c.args.literals.now c.args.weights.now c.args.entrycount) in
+    let Q = query_tables c.args.level c.args.lowers.now c.args.wished.now c.args.spots.now c.args.assumed.now (judging c.args.softs.now c.args.cores.now c.args.indices.now c.args.ends.now c.args.members.now) in
+    let P = places c.args.lits.now c.args.marks.now c.args.value.now c.args.len in
+    let A = blame_tables c.args.flags.now c.args.core.now c.args.from in
     let o = c.step-o in
     let a = c.blame_entry-f in (
-      turn_violated (given s) (asked s) (there s) (accused s) (by_first s o.ensures.0) c.t-1.given.1 a.ensures
-          (backed_is o.new.1.1.1.1.1.1.1.1.1.1.1.1.0 o.new.1.1.1.1.1.1.1.1.1.1.1.1.1.0 o.new.1.1.1.1.1.1.1.1.1.1.1.1.1.1.0 o.result.len a.result a.new.1.1.0 a.new.1.1.1.0 c.backed-b-in-SoftViolated.ensures refl),
+      turn_violated S Q P A (step_by S Q P A c.requires.tries o.ensures.0) c.in-SoftViolated.is a.ensures
+          (backed_is o.new.lits o.new.signs o.new.value o.result.len a.result a.new.flags a.new.core c.backed-b-in-SoftViolated.ensures refl),
       o.ensures.1,
     )
 
 pub returns-in-Open : goal.returns-in-Open
 returns-in-Open c =
-    let s = c.before in
-    (turn_open (given s) (asked s) (there s) (accused s) (by_first s c.step-o.ensures.0) c.enum_told-in-Open-1.given.1, c.step-o.ensures.1)
+    let S = source c.args.n c.args.pool.now c.args.rows.now c.args.rulecount (level_tables c.args.levels.now c.args.priorities.now c.args.literals.now c.args.weights.now c.args.entrycount) in
+    let Q = query_tables c.args.level c.args.lowers.now c.args.wished.now c.args.spots.now c.args.assumed.now (judging c.args.softs.now c.args.cores.now c.args.indices.now c.args.ends.now c.args.members.now) in
+    let P = places c.args.lits.now c.args.marks.now c.args.value.now c.args.len in
+    let A = blame_tables c.args.flags.now c.args.core.now c.args.from in
+    (turn_open S Q P A (step_by S Q P A c.requires.tries c.step-o.ensures.0) c.in-Open.is, c.step-o.ensures.1)
 
 pub returns-in-Full : goal.returns-in-Full
 returns-in-Full c =
-    let s = c.before in
-    (turn_full (given s) (asked s) (there s) (accused s) (by_first s c.step-o.ensures.0) c.enum_told-in-Full-1.given.1 c.judged.ensures.0, c.judged.ensures.1)
+    let S = source c.args.n c.args.pool.now c.args.rows.now c.args.rulecount (level_tables c.args.levels.now c.args.priorities.now c.args.literals.now c.args.weights.now c.args.entrycount) in
+    let Q = query_tables c.args.level c.args.lowers.now c.args.wished.now c.args.spots.now c.args.assumed.now (judging c.args.softs.now c.args.cores.now c.args.indices.now c.args.ends.now c.args.members.now) in
+    let P = places c.args.lits.now c.args.marks.now c.args.value.now c.args.len in
+    let A = blame_tables c.args.flags.now c.args.core.now c.args.from in
+    (turn_full S Q P A (step_by S Q P A c.requires.tries c.step-o.ensures.0) c.in-Full.is c.judged.ensures.0, c.judged.ensures.1)
