@@ -1,6 +1,6 @@
 -- A monotone step on sets of the atoms 1 to n, iterated from the empty set, comes to rest within n + 1 rounds, at the least closed set.
 -- Over any step: what a program's rules add is one. Assumes nothing.
-use mathlib.Core.Path.{◌≡◌, refl, sym, ap, ◌∙◌}
+use mathlib.Core.Path.{◌≡◌}
 use mathlib.Core.Bool.{Bool, true, false}
 use mathlib.Core.Logic.{◌⊎◌, inl, inr}
 use Prim.Native.Nat.{ℕ, zero, suc, ◌+◌, ◌≤◌, ◌<◌}

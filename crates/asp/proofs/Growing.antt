@@ -1,25 +1,22 @@
 -- Laws of `Grown`: adding an atom, adding nothing, one growth after another; and what a choice and a rule come to. Assumes nothing.
 use mathlib.Core.Path.{◌≡◌, refl, sym, ap, subst, ◌∙◌}
-use mathlib.Core.Bool.{Bool, true, false, not, ◌&&◌, ◌||◌}
+use mathlib.Core.Bool.{Bool, true, false, not, ◌||◌}
 use mathlib.Core.List.{List, [], ◌∷◌, ◌++◌}
 use mathlib.Core.Logic.{◌⊎◌, inl, inr}
-use Prim.Native.Nat.{ℕ, zero, suc, ◌+◌, ◌-◌, ◌*◌, ◌≤◌, ◌<◌}
+use Prim.Native.Nat.{ℕ, suc, ◌+◌, ◌-◌, ◌≤◌, ◌<◌}
 use native.Mathlib.Decide.{ℕ_discrete}
 use native.Mathlib.Omega.{arith}
-use lib.Dec.{T, eqb, eqb→eq}
+use lib.Dec.{T, eqb→eq}
 use lib.IntN.{ℤ, pos, negsuc, nat_abs}
 use lib.ListN.{length, get_or, set, length-set}
 use lib.Seq.{get_or-set_same, get_or-set_other}
-use mir.Facts.{and_yes, yes_and, or_yes, yes_eqb, T_not}
-use borrow.Author.Tests.{eq-eqb, ne_eqb}
-use Rattle.asp.specs.Sets.{Set, Sub, In, set_of, pick}
-use Rattle.asp.specs.Program.{Literal, Body, normal, Head, constraint, plain, choice, Rule, All, HeadIn, RuleIn}
-use Rattle.asp.specs.Stable.{holds_in, all_hold, body_holds, member, head_adds, rule_adds}
-use Rattle.asp.specs.Tables.{span, named, literals_at, atoms_at, Row, row_at, plain_head, head_at, body_at, rule_at, RowIn}
-use Rattle.asp.specs.Growth.{Grown, ChosenAtom, Chosen, KeptBy, RuleFormed, RulesFormed}
+use mir.Facts.{yes_eqb}
+use Rattle.asp.specs.Sets.{Set, Sub, In, set_of}
+use Rattle.asp.specs.Program.{All}
+use Rattle.asp.specs.Tables.{span, named, atoms_at}
+use Rattle.asp.specs.Growth.{Grown, ChosenAtom, Chosen}
 use Rattle.asp.proofs.Closure.{sub_refl, sub_trans}
-use Rattle.asp.proofs.Stability.{body_mono}
-use Rattle.asp.proofs.Spans.{span_more, span_none, span_whole, span_snoc, span_at, all_map}
+use Rattle.asp.proofs.Spans.{span_snoc, span_at}
 
 clash : {A : Type 0} → true ≡ false → A
 clash {A} q = let z : ◌≡◌ {A = ℕ} 0 1 = cc in absurd (omega arith)

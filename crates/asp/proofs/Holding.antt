@@ -1,15 +1,15 @@
 -- The loop over the literals of a pool: what holds in it. Assumes nothing.
-use mathlib.Core.Path.{◌≡◌, refl, sym, ap, ◌∙◌}
-use mathlib.Core.Bool.{Bool, true, false, not, ◌&&◌}
-use mathlib.Core.List.{List, [], ◌∷◌}
-use Prim.Native.Nat.{ℕ, zero, suc, ◌+◌, ◌-◌, ◌≤◌, ◌<◌}
+use mathlib.Core.Path.{◌≡◌}
+use mathlib.Core.Bool.{Bool, true, false}
+use mathlib.Core.List.{List, ◌∷◌}
+use Prim.Native.Nat.{ℕ, ◌+◌, ◌-◌, ◌≤◌, ◌<◌}
 use native.Mathlib.Omega.{arith}
 use lib.IntN.{ℤ, pos, nat_abs}
 use lib.ListN.{length, get_or}
-use Rattle.asp.specs.Sets.{Set, set_of}
+use Rattle.asp.specs.Sets.{Set}
 use Rattle.asp.specs.Program.{All, LiteralIn}
 use Rattle.asp.specs.Stable.{holds_in, all_hold}
-use Rattle.asp.specs.Tables.{literals_at, span}
+use Rattle.asp.specs.Tables.{literals_at}
 use Rattle.asp.proofs.Spans.{span_more, span_none, span_whole}
 
 -- the literals from j on decide

@@ -1,19 +1,19 @@
 -- The pairs of a weighted body: the loop that sums them, for any sum over them. Assumes nothing.
-use mathlib.Core.Path.{◌≡◌, refl, sym, ap, ◌∙◌}
+use mathlib.Core.Path.{◌≡◌, refl}
 use mathlib.Core.Bool.{Bool, true, false}
 use mathlib.Core.List.{List, [], ◌∷◌}
-use Prim.Native.Nat.{ℕ, zero, suc, ◌+◌, ◌-◌, ◌*◌, ◌≤◌, ◌<◌}
+use Prim.Native.Nat.{ℕ, suc, ◌+◌, ◌-◌, ◌*◌, ◌≤◌, ◌<◌}
 use native.Mathlib.Omega.{arith}
 use lib.Dec.{eqb, leb}
 use borrow.Author.Tests.{ne_eqb}
 use lib.IntN.{ℤ, pos, nat_abs}
 use lib.ListN.{length, get_or}
-use Rattle.asp.specs.Sets.{Set, pick}
+use Rattle.asp.specs.Sets.{Set}
 use Rattle.asp.specs.Program.{Weighed, weighted, All, LiteralIn}
-use Rattle.asp.specs.Stable.{holds_in, pair_counts, counts, all_hold, body_holds}
-use Rattle.asp.specs.Tables.{span, literals_at, is_choice, is_weighted, is_mixed, pair_at, pairs_at, bound_at, body_at, Row, row_at, rule_at}
-use Rattle.asp.specs.Growth.{PairsFormed, RuleFormed}
-use Rattle.asp.proofs.Spans.{span_more, span_none, span_whole, span_at}
+use Rattle.asp.specs.Stable.{holds_in, pair_counts, counts}
+use Rattle.asp.specs.Tables.{literals_at, is_choice, is_weighted, is_mixed, pair_at, pairs_at, bound_at, body_at, Row}
+use Rattle.asp.specs.Growth.{PairsFormed}
+use Rattle.asp.proofs.Spans.{span_more, span_none, span_whole}
 
 -- ---- the kind of a row
 

@@ -1,6 +1,6 @@
 -- The loops over entries, levels and figures. Assumes nothing.
 use mathlib.Core.Path.{◌≡◌, refl, sym, ap, ◌∙◌}
-use mathlib.Core.Bool.{Bool, true, false, not, ◌&&◌, ◌||◌}
+use mathlib.Core.Bool.{Bool, true, false}
 use mathlib.Core.List.{List, [], ◌∷◌, ◌++◌, map, append_assoc}
 use Prim.Native.Nat.{ℕ, zero, suc, ◌+◌, ◌-◌, ◌*◌, ◌≤◌, ◌<◌}
 use native.Mathlib.Nat.{sub-zero, zero-add}
@@ -8,14 +8,14 @@ use native.Mathlib.Numerals.{add-one}
 use native.Mathlib.Omega.{arith}
 use lib.IntN.{ℤ, pos, nat_abs, ◌+ℤ◌, +ℤ_assoc, +ℤ_idl, +ℤ_idr}
 use lib.Signed.{lt_z}
-use lib.ListN.{length, get_or, take, drop, set, length-set, length-map, length-drop, length-append}
+use lib.ListN.{length, get_or, take, drop, set, length-set, length-map}
 use lib.Seq.{drop-cons, set_at}
 use mir.Syntax.{w32, w64}
 use mir.Val.{SFits, to_z, of_z}
 use mir.Facts.{to_z-of_z}
 use Rattle.asp.specs.Sets.{Set, pick}
 use Rattle.asp.specs.Literal.{same_ℤ, is_negative}
-use Rattle.asp.specs.Program.{Entry, Literal, All, LiteralIn}
+use Rattle.asp.specs.Program.{Entry, All, LiteralIn}
 use Rattle.asp.specs.Stable.{holds_in, all_hold}
 use Rattle.asp.specs.Cost.{level, total_ℤ, cheaper}
 use Rattle.asp.specs.Tables.{span, literals_at, row_at, condition_at, entry_at, entries_of}

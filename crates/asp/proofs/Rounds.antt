@@ -1,26 +1,25 @@
 -- The loops over all rules: violated constraints, one round of the closure, and rounds until nothing is new. Assumes nothing.
-use mathlib.Core.Path.{◌≡◌, refl, sym, ap, subst, fun_ext, ◌∙◌}
-use mathlib.Core.Bool.{Bool, true, false, not, ◌&&◌, ◌||◌}
-use mathlib.Core.List.{List, [], ◌∷◌, ◌++◌}
+use mathlib.Core.Path.{◌≡◌, refl, sym, subst, fun_ext, ◌∙◌}
+use mathlib.Core.Bool.{Bool, true, false, ◌||◌}
+use mathlib.Core.List.{List}
 use mathlib.Core.Logic.{◌⊎◌, inl, inr, ⊎_elim}
-use Prim.Native.Nat.{ℕ, zero, suc, ◌+◌, ◌-◌, ◌*◌, ◌≤◌, ◌<◌}
+use Prim.Native.Nat.{ℕ, zero, suc, ◌+◌, ◌-◌, ◌≤◌, ◌<◌}
 use native.Mathlib.Nat.{sub-zero, eq-or-lt_of_le}
 use native.Mathlib.Omega.{arith}
 use lib.Dec.{T}
 use lib.IntN.{ℤ}
-use lib.ListN.{length, get_or, replicate, length-replicate}
+use lib.ListN.{length, replicate, length-replicate}
 use mir.Facts.{or_yes}
 use borrow.Author.Count.{below_more}
-use Rattle.asp.specs.Sets.{Set, Sub, In, Only, set_of}
-use Rattle.asp.specs.Program.{Rule, All, RuleIn}
+use Rattle.asp.specs.Sets.{Set, Sub, In, set_of}
+use Rattle.asp.specs.Program.{Rule}
 use Rattle.asp.specs.Stable.{rule_adds, adds, constraint_fails, any_violated, Closed, closure}
 use Rattle.asp.specs.Tables.{span, row_at, rule_at, rules_of, Formed}
 use Rattle.asp.specs.Growth.{Grown, KeptBy, RuleFormed, RulesFormed}
-use Rattle.asp.proofs.Closure.{sub_refl, sub_trans, upto_sub, size, size_le, size_more, size_mono, bit}
+use Rattle.asp.proofs.Closure.{upto_sub, size, size_le, size_more, size_mono, bit}
 use Rattle.asp.proofs.Stability.{yes_or_left, yes_or_right, closure_closed, closure_least, closure_only}
 use Rattle.asp.proofs.Spans.{span_more, span_none}
 use Rattle.asp.proofs.Growing.{grown_none, grown_join}
-use Rattle.asp.proofs.Rules.{formed_each}
 
 -- ---- violated constraints
 

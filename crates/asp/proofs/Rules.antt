@@ -1,24 +1,23 @@
 -- A rule in its tables: its head and body by the numbers of its row, and what it adds. Assumes nothing.
-use mathlib.Core.Path.{◌≡◌, refl, sym, ap, subst, ◌∙◌}
-use mathlib.Core.Bool.{Bool, true, false, not, ◌&&◌, ◌||◌}
-use mathlib.Core.List.{List, [], ◌∷◌, ◌++◌}
-use mathlib.Core.Logic.{◌⊎◌, inl, inr, ⊎_elim}
-use Prim.Native.Nat.{ℕ, zero, suc, ◌+◌, ◌-◌, ◌*◌, ◌≤◌, ◌<◌}
+use mathlib.Core.Path.{◌≡◌, sym, ◌∙◌}
+use mathlib.Core.Bool.{Bool, true, false, not}
+use mathlib.Core.List.{List, [], ◌∷◌}
+use mathlib.Core.Logic.{◌⊎◌, inl, inr}
+use Prim.Native.Nat.{ℕ, suc, ◌+◌, ◌-◌, ◌*◌, ◌≤◌, ◌<◌}
 use native.Mathlib.Omega.{arith}
 use lib.Dec.{T, eqb, eqb→eq, eqb_refl, leb}
-use lib.IntN.{ℤ, pos, negsuc, nat_abs}
+use lib.IntN.{ℤ, pos, nat_abs}
 use lib.ListN.{length, get_or, set}
 use mir.Facts.{and_yes, yes_and, or_yes}
-use borrow.Author.Tests.{eq-eqb, ne_eqb}
-use Rattle.asp.specs.Sets.{Set, Sub, In, set_of, pick}
+use Rattle.asp.specs.Sets.{Set, Sub, In, set_of}
 use Rattle.asp.specs.Program.{Literal, LiteralIn, Weighed, Body, normal, weighted, Head, constraint, plain, choice, Rule, All, HeadIn, RuleIn}
-use Rattle.asp.specs.Stable.{all_hold, counts, body_holds, member, head_adds, rule_adds, adds, constraint_fails, any_violated, Closed}
-use Rattle.asp.specs.Tables.{span, named, literals_at, atoms_at, is_choice, is_weighted, pair_at, pairs_at, Row, row_at, plain_head, head_at, rule_at, rules_of, RowIn, Formed}
+use Rattle.asp.specs.Stable.{all_hold, counts, body_holds, member, head_adds, constraint_fails}
+use Rattle.asp.specs.Tables.{span, named, literals_at, atoms_at, is_choice, is_weighted, pair_at, pairs_at, Row, row_at, head_at, rule_at, Formed}
 use Rattle.asp.specs.Growth.{Grown, Chosen, KeptBy, PairsFormed, RuleFormed, RulesFormed}
 use Rattle.asp.proofs.Stability.{body_mono, yes_or_left, yes_or_right}
-use Rattle.asp.proofs.Spans.{span_more, span_none, span_whole, span_snoc, span_at, all_map}
+use Rattle.asp.proofs.Spans.{span_at, all_map}
 use Rattle.asp.proofs.Pairs.{body_weighted, body_normal}
-use Rattle.asp.proofs.Growing.{grown_one, grown_none, grown_join}
+use Rattle.asp.proofs.Growing.{grown_one, grown_none}
 
 -- ---- the head of a row
 

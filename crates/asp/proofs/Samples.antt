@@ -1,15 +1,14 @@
 -- The starred samples of document 01, "Sample programs", that speak of stable models and costs, two of order 1 and five of order 2: one table, proved as a whole.
 -- Each program has exactly the stable models listed, among all sets of atoms, and each of them costs what is listed. Assumes nothing.
 use mathlib.Core.Path.{◌≡◌, refl, subst}
-use mathlib.Core.Bool.{Bool, true, false}
+use mathlib.Core.Bool.{true}
 use mathlib.Core.List.{List, [], ◌∷◌, map}
-use Prim.Native.Nat.{ℕ, ◌≤◌}
+use Prim.Native.Nat.{ℕ}
 use native.Mathlib.Omega.{arith}
-use lib.Dec.{T}
 use lib.Signed.{lt_z}
 use lib.IntN.{ℤ, pos, negsuc}
-use Rattle.asp.specs.Sets.{Set, In, same, iterate}
-use Rattle.asp.specs.Program.{Literal, Weighed, Body, normal, weighted, Head, constraint, plain, choice, Rule, Entry, Program, All, RuleIn, atoms, highest}
+use Rattle.asp.specs.Sets.{Set, same, iterate}
+use Rattle.asp.specs.Program.{Literal, Weighed, normal, weighted, Head, constraint, plain, choice, Rule, Entry, Program, All, RuleIn, atoms, highest}
 use Rattle.asp.specs.Stable.{Stable, listed, models, all_hold, counts, member, adds, any_violated, subsets, keep}
 use Rattle.asp.specs.Cost.{level, total, total_ℤ, W, costs, starts, cheaper}
 use Rattle.asp.proofs.Models.{OneOf, models_all, models_only}

@@ -3,14 +3,14 @@
 -- Assumes nothing.
 use mathlib.Core.Path.{◌≡◌, refl, sym, ap, ap₂, ◌∙◌}
 use mathlib.Core.Bool.{Bool, true, false, cond}
-use Prim.Native.Nat.{ℕ, zero, suc, ◌+◌, ◌-◌, ◌≤◌, ◌<◌}
+use Prim.Native.Nat.{ℕ, zero, suc, ◌+◌, ◌-◌, ◌≤◌}
 use native.Mathlib.Omega.{arith}
 use lib.Dec.{T, eqb, ltb}
 use lib.IntN.{ℤ, pos, negsuc, neg_ℤ, nat_abs, sub_ℕ, ◌+ℤ◌, ◌-ℤ◌, +ℤ_idl}
 use lib.Signed.{lt_z, non_neg}
 use mir.Syntax.{Width, w32, w64}
 use mir.Val.{SFits, Fits, to_z, of_z}
-use mir.Facts.{to_z-of_z, to_z_pos}
+use mir.Facts.{to_z-of_z}
 use borrow.Author.Tests.{eq-eqb, eqb-true, eqb-false, ltb-true, le-ltb}
 use Rattle.asp.specs.Literal.{same_ℤ, is_negative}
 

@@ -1,14 +1,13 @@
 -- The closure of a program's rules is the least closed set, and the test `is_stable` says just which sets are stable. Assumes nothing.
-use mathlib.Core.Path.{◌≡◌, refl, sym, ap, ◌∙◌}
-use mathlib.Core.Bool.{Bool, true, false, not, ◌&&◌, ◌||◌, beq}
+use mathlib.Core.Bool.{Bool, true, false, not, ◌||◌, beq}
 use mathlib.Core.List.{List, [], ◌∷◌}
 use mathlib.Core.Logic.{◌⊎◌, inl, inr, ⊎_elim}
-use Prim.Native.Nat.{ℕ, zero, suc, ◌+◌, ◌≤◌, ◌<◌, zero-le}
+use Prim.Native.Nat.{ℕ, zero, suc, ◌≤◌, zero-le}
 use native.Mathlib.Omega.{arith}
-use lib.Dec.{T, eqb, eqb→eq, leb, leb→le, le→leb}
+use lib.Dec.{T, eqb, eqb→eq, leb→le, le→leb}
 use lib.IntN.{ℤ, pos, negsuc}
 use mir.Facts.{and_yes, yes_and, or_yes}
-use Rattle.asp.specs.Sets.{Set, Sub, In, Only, same, iterate, pick}
+use Rattle.asp.specs.Sets.{Set, Sub, In, Only, same, pick}
 use Rattle.asp.specs.Program.{Literal, Weighed, Body, normal, weighted, Head, constraint, plain, choice, Rule, All, HeadIn, RuleIn}
 use Rattle.asp.specs.Stable.{holds_in, all_hold, counts, body_holds, member, head_adds, rule_adds, adds, any_violated, Closed, Stable, closure, is_stable}
 use Rattle.asp.proofs.Closure.{Upto, upto_sub, sub_upto, upto_suc, sub_trans, inside, at_rest, iterate_only}

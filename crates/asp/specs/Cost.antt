@@ -1,9 +1,9 @@
 -- Costs: what a set costs on each level, and the comparison level by level. Document 01, "Plans and costs"; order 1: "Costs are signed."
 -- Assumes nothing: these are definitions.
-use Rattle.std.specs.Prelude.{◌≡◌, Bool, true, false, not, ◌&&◌, ◌||◌, List, [], ◌∷◌, map, ◌⊎◌, ℕ, ◌+◌, T, ℤ, pos, nat_abs, ◌+ℤ◌, length}
+use Rattle.std.specs.Prelude.{◌≡◌, Bool, false, not, ◌&&◌, ◌||◌, List, [], ◌∷◌, map, ◌⊎◌, ℕ, ◌+◌, T, ℤ, pos, nat_abs, ◌+ℤ◌, length}
 use Rattle.asp.specs.Sets.{Set, pick}
 use Rattle.asp.specs.Literal.{same_ℤ, is_negative}
-use Rattle.asp.specs.Program.{Literal, Entry, Program}
+use Rattle.asp.specs.Program.{Entry, Program}
 use Rattle.asp.specs.Stable.{holds}
 
 -- ---- levels

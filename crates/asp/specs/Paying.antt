@@ -1,10 +1,10 @@
 -- What an entry costs on a level, and well-formed tables of entries and symbols. Assumes nothing: these are definitions.
-use Rattle.std.specs.Prelude.{Bool, true, false, List, ℕ, ◌+◌, ◌*◌, ◌≤◌, ◌<◌, ℤ, pos, length}
+use Rattle.std.specs.Prelude.{List, ℕ, ◌+◌, ◌*◌, ◌≤◌, ℤ, pos, length}
 use Rattle.asp.specs.Sets.{Set, pick}
 use Rattle.asp.specs.Literal.{same_ℤ}
 use Rattle.asp.specs.Program.{Entry, All, LiteralIn}
 use Rattle.asp.specs.Cost.{entry_cost, negative_part}
-use Rattle.asp.specs.Tables.{Row, row_at, literals_at, condition_at, entries_of}
+use Rattle.asp.specs.Tables.{row_at, condition_at, entries_of}
 
 -- what an entry adds to a sum over the level of priority p, if f says what it comes to
 abbrev pub on_level : (Entry → ℤ) → ℤ → Entry → ℤ

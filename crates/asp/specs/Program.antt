@@ -1,5 +1,5 @@
 -- Programs: what the statements of a text say. Document 01, "The text". Assumes nothing: these are definitions.
-use Rattle.std.specs.Prelude.{◌≡◌, Bool, true, false, List, [], ◌∷◌, map, ℕ, zero, suc, ◌+◌, ◌≤◌, max, ℤ, pos, negsuc, nat_abs}
+use Rattle.std.specs.Prelude.{◌≡◌, List, [], ◌∷◌, ℕ, max, ℤ, nat_abs}
 use Rattle.asp.specs.Sets.{In}
 
 -- "A literal is a signed number: a for atom a, minus a for its default negation." Its atom is `nat_abs l`, its complement `neg_ℤ l`.

@@ -1,5 +1,5 @@
 -- Sets of atoms. Assumes nothing: these are definitions.
-use Rattle.std.specs.Prelude.{Bool, true, false, not, ◌&&◌, ℕ, zero, suc, ◌+◌, ◌≤◌, ◌<◌, T, eqb, get_or, List, [], ◌∷◌}
+use Rattle.std.specs.Prelude.{Bool, true, false, ◌&&◌, ℕ, zero, suc, ◌≤◌, T, eqb, get_or, List}
 use Rattle.std.specs.Bool.{beq}
 
 abbrev pub pick : {A : Type 0} → Bool → A → A → A

@@ -1,6 +1,6 @@
 -- Stable models: as a type, in the words of document 01, "Plans and costs"; and as a test that computes. Assumes nothing: these are definitions.
-use Rattle.std.specs.Prelude.{◌≡◌, Bool, true, false, not, ◌&&◌, ◌||◌, cond, List, [], ◌∷◌, ◌++◌, map, ℕ, zero, suc, ◌+◌, T, eqb, leb, ℤ, pos, negsuc}
-use Rattle.asp.specs.Sets.{Set, Sub, In, Only, same, iterate, pick}
+use Rattle.std.specs.Prelude.{Bool, true, false, not, ◌&&◌, ◌||◌, cond, List, [], ◌∷◌, ◌++◌, map, ℕ, zero, suc, ◌+◌, T, eqb, leb, pos, negsuc}
+use Rattle.asp.specs.Sets.{Set, Sub, same, iterate, pick}
 use Rattle.asp.specs.Program.{Literal, Weighed, Body, normal, weighted, Head, constraint, plain, choice, Rule, Symbol}
 
 -- ---- when a literal, a body, a condition holds

@@ -1,13 +1,13 @@
 -- The loops over the pairs of a weighted body, under the values of a trail. Assumes nothing.
-use mathlib.Core.Path.{◌≡◌, refl, sym, ap, ◌∙◌}
-use mathlib.Core.Bool.{Bool, true, false, ◌&&◌}
-use mathlib.Core.List.{List, [], ◌∷◌}
-use Prim.Native.Nat.{ℕ, zero, suc, ◌+◌, ◌-◌, ◌*◌, ◌≤◌, ◌<◌, min}
+use mathlib.Core.Path.{◌≡◌, refl, ◌∙◌}
+use mathlib.Core.Bool.{Bool, true, false}
+use mathlib.Core.List.{List}
+use Prim.Native.Nat.{ℕ, ◌+◌, ◌-◌, ◌≤◌, ◌<◌, min}
 use native.Mathlib.Omega.{arith}
-use lib.Dec.{eqb, leb}
+use lib.Dec.{leb}
 use lib.IntN.{ℤ, pos, neg_ℤ, nat_abs}
 use lib.ListN.{length, get_or}
-use borrow.Author.Tests.{eq-eqb, ne_eqb, le-leb, lt-leb}
+use borrow.Author.Tests.{ne_eqb, le-leb, lt-leb}
 use mir.Syntax.{w32}
 use mir.Val.{to_z, of_z}
 use mir.Facts.{to_z-of_z}
@@ -15,7 +15,7 @@ use Rattle.asp.proofs.Signed.{small_fits}
 use Rattle.asp.specs.Sets.{pick}
 use Rattle.asp.specs.Literal.{same_ℤ}
 use Rattle.asp.specs.Program.{Weighed}
-use Rattle.asp.specs.Tables.{span, pair_at, pairs_at}
+use Rattle.asp.specs.Tables.{pair_at, pairs_at}
 use Rattle.asp.specs.Growth.{PairsFormed}
 use Rattle.asp.proofs.Spans.{span_more, span_none, span_whole}
 use Rattle.asp.proofs.Pairs.{SumOf, PairsLeft, pairs_next, pairs_done}

@@ -4,21 +4,20 @@ use mathlib.Core.Path.{◌≡◌, refl, sym, ap, ◌∙◌, subst, fun_ext}
 use mathlib.Core.Bool.{Bool, true, false, not, ◌&&◌, ◌||◌}
 use mathlib.Core.List.{List, [], ◌∷◌}
 use mathlib.Core.Logic.{◌⊎◌, inl, inr, ⊎_map}
-use Prim.Native.Nat.{ℕ, zero, suc, ◌+◌, ◌-◌, ◌≤◌, ◌<◌, min}
+use Prim.Native.Nat.{ℕ, zero, suc, ◌+◌, ◌-◌, ◌≤◌, min}
 use native.Mathlib.Omega.{arith}
 use native.Mathlib.Decide.{dec_le}
 use lib.Dec.{T, eqb, eqb_refl, leb, leb→le, le→leb}
 use lib.IntN.{ℤ, pos, negsuc, neg_ℤ, nat_abs}
-use mir.Facts.{and_yes, yes_and, or_yes, eqb_yes, T_not, not_T}
-use borrow.Author.Tests.{eqb-true, eqb-false}
+use mir.Facts.{and_yes, yes_and, or_yes}
+use borrow.Author.Tests.{eqb-true}
 use Rattle.asp.specs.Sets.{Set, In, Only, pick}
 use Rattle.asp.specs.Literal.{is_negative}
 use Rattle.asp.specs.Program.{Literal, Weighed, Body, normal, weighted, Head, constraint, plain, choice, Rule, All, LiteralIn, BodyIn, HeadIn, RuleIn}
 use Rattle.asp.specs.Stable.{holds, all_hold, counts, body_holds}
-use Rattle.asp.proofs.Signed.{abs_neg, clash}
 use Rattle.asp.proofs.Literals.{holds_complement}
-use Rattle.search.specs.Trail.{Marked, Trail, literal_of, on, NotOn, FormedTrail, Agrees, InAll, trail_set}
-use Rattle.search.specs.Query.{no_head_in, broken_in, violated_in, Some, HoldsAll, RuleFails, SoftFails}
+use Rattle.search.specs.Trail.{Trail, literal_of, on, NotOn, FormedTrail, Agrees, InAll, trail_set}
+use Rattle.search.specs.Query.{no_head_in, broken_in, violated_in, HoldsAll, RuleFails}
 use Rattle.search.specs.Weigh.{total}
 use Rattle.search.proofs.Counts.{not_on, yes_or_left, yes_or_right}
 use Rattle.search.proofs.Totals.{PairsIn, sum_same, sum_mono, by_atoms, Rises, by_pair, none_by, counts_by}

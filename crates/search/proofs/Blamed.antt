@@ -1,5 +1,5 @@
 -- What a table of blamed places says, as the list that the theory of `Search` speaks of. Assumes nothing.
-use mathlib.Core.Path.{◌≡◌, refl, sym, ap, ◌∙◌}
+use mathlib.Core.Path.{◌≡◌, refl, ◌∙◌}
 use mathlib.Core.Bool.{Bool, true, false}
 use mathlib.Core.List.{List, [], ◌∷◌}
 use Prim.Native.Nat.{ℕ, zero, suc, ◌+◌, ◌≤◌, ◌<◌}
@@ -7,10 +7,9 @@ use native.Mathlib.Omega.{arith}
 use lib.Dec.{eqb}
 use lib.ListN.{length, get_or, set}
 use lib.Seq.{get_or-set_same, get_or-set_other}
-use borrow.Author.Tests.{eqb-true, eqb-false, ne_eqb}
+use borrow.Author.Tests.{eqb-true, eqb-false}
 use Rattle.asp.specs.Sets.{pick}
 use Rattle.asp.specs.Program.{All}
-use Rattle.asp.proofs.Signed.{clash}
 use Rattle.search.specs.Soft.{blamed_from}
 use Rattle.asp.specs.Program.{Out, Distinct}
 

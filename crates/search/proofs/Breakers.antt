@@ -4,16 +4,15 @@ use mathlib.Core.Path.{◌≡◌, refl, sym, ap, ◌∙◌}
 use mathlib.Core.Bool.{Bool, true, false, not, ◌&&◌, ◌||◌}
 use mathlib.Core.List.{List, [], ◌∷◌}
 use mathlib.Core.Logic.{◌⊎◌, inl, inr, ⊎_elim}
-use Prim.Native.Nat.{ℕ, zero, suc, ◌+◌, ◌-◌, ◌≤◌, ◌<◌}
+use Prim.Native.Nat.{ℕ, zero, suc, ◌+◌, ◌<◌}
 use native.Mathlib.Omega.{arith}
-use lib.Dec.{T, eqb, eqb_refl, leb→le, le→leb}
-use lib.IntN.{ℤ, pos, negsuc, neg_ℤ, nat_abs}
-use lib.ListN.{length, get_or}
-use mir.Facts.{and_yes, yes_and, or_yes, eqb_yes}
+use lib.Dec.{T, eqb, leb→le, le→leb}
+use lib.IntN.{ℤ, pos, negsuc, nat_abs}
+use mir.Facts.{and_yes, yes_and}
 use borrow.Author.Tests.{eq-eqb, ne_eqb, eqb-true, eqb-false}
-use Rattle.asp.specs.Sets.{Set, In, pick}
+use Rattle.asp.specs.Sets.{In, pick}
 use Rattle.asp.specs.Literal.{same_ℤ, is_negative}
-use Rattle.asp.specs.Program.{Weighed, weighted, Rule, RuleIn}
+use Rattle.asp.specs.Program.{Weighed, weighted, RuleIn}
 use Rattle.asp.specs.Stable.{holds}
 use Rattle.asp.specs.Tables.{is_choice, is_weighted, is_mixed, pairs_at, bound_at, head_at, Row, row_at, rule_at, RowIn, Formed}
 use Rattle.asp.proofs.Signed.{clash}
@@ -23,10 +22,10 @@ use Rattle.search.specs.declared.scan.Found.{Found}
 use Rattle.search.specs.declared.scan.Found.TheVariants.{Broken, Breaker, Clear}
 use Rattle.search.specs.Trail.{decision, Trail, on, NotOn, FormedTrail, InAll, trail_set}
 use Rattle.search.specs.Query.{broken_in}
-use Rattle.search.specs.Places.{truth_of, truth_at, value_on}
-use Rattle.search.specs.Scan.{Rules, rules, row_of, conditions, head_conditions, head_rest, weighted_rest, row_rest, free_of, meet_of, meets, begins, rest_of, is_all, note_of, scan_from, scan_of}
+use Rattle.search.specs.Places.{truth_at}
+use Rattle.search.specs.Scan.{rules, conditions, head_conditions, head_rest, weighted_rest, row_rest, free_of, meet_of, meets, begins, rest_of, is_all, note_of, scan_from, scan_of}
 use Rattle.search.proofs.ScanLaws.{off_stays}
-use Rattle.search.proofs.Counts.{not_on, on_not}
+use Rattle.search.proofs.Counts.{on_not}
 use Rattle.search.proofs.Agree.{lit_on, lits_on, head_on, body_on, owed, rule_on, rule_all, all_rule}
 use Rattle.search.specs.Weigh.{both_rest}
 use Rattle.search.proofs.Weighing.{owed_rises}

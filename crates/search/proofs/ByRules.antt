@@ -5,7 +5,6 @@ use mathlib.Core.Bool.{Bool, true, false, not}
 use mathlib.Core.List.{List, [], ◌∷◌}
 use Prim.Native.Nat.{ℕ, zero, suc, ◌+◌, ◌≤◌}
 use native.Mathlib.Omega.{arith}
-use lib.Dec.{eqb}
 use lib.IntN.{ℤ, pos, neg_ℤ}
 use lib.ListN.{get_or}
 use borrow.Author.Tests.{lt-ltb, le-ltb}
@@ -19,7 +18,7 @@ use Rattle.search.specs.declared.scan.Rest.{Rest}
 use Rattle.search.specs.declared.scan.Rest.TheVariants.{All, Off}
 use Rattle.search.specs.declared.scan.Found.{Found}
 use Rattle.search.specs.declared.scan.Found.TheVariants.{Broken, Clear}
-use Rattle.search.specs.Scan.{rules, cond_at, conditions, head_conditions, head_rest, weighted_rest, row_rest, meets, begins, rest_of, is_all, note_of, scan_from, scan_of}
+use Rattle.search.specs.Scan.{rules, cond_at, conditions, head_conditions, weighted_rest, row_rest, meets, rest_of, is_all, note_of, scan_from, scan_of}
 use Rattle.search.proofs.ScanLaws.{off_stays}
 use Rattle.search.proofs.Formed.{plain_head_lem, rule_in}
 

@@ -1,35 +1,27 @@
 -- The conditions of a rule under the values of a trail: each is true just if it is on the trail. Assumes nothing.
-use mathlib.Core.Path.{◌≡◌, refl, sym, ap, ap₂, ◌∙◌}
+use mathlib.Core.Path.{◌≡◌, refl, ap, ◌∙◌}
 use mathlib.Core.Bool.{Bool, true, false, not, ◌&&◌, ◌||◌}
 use mathlib.Core.List.{List, [], ◌∷◌}
-use mathlib.Core.Logic.{◌⊎◌, inl, inr}
-use Prim.Native.Nat.{ℕ, zero, suc, ◌+◌, ◌-◌, ◌≤◌, ◌<◌}
+use Prim.Native.Nat.{ℕ, zero, suc, ◌+◌, ◌≤◌}
 use native.Mathlib.Omega.{arith}
-use lib.Dec.{T, eqb, ltb}
+use lib.Dec.{eqb}
 use lib.IntN.{ℤ, pos, negsuc, neg_ℤ, nat_abs}
-use lib.ListN.{length, get_or}
-use borrow.Author.Tests.{lt-ltb, le-ltb, eqb-true, eqb-false, ltb-true}
-use Rattle.asp.specs.Sets.{Set, In, pick}
+use lib.ListN.{get_or}
+use borrow.Author.Tests.{lt-ltb, le-ltb, eqb-true}
+use Rattle.asp.specs.Sets.{Set, pick}
 use Rattle.asp.specs.Literal.{same_ℤ, is_negative}
-use Rattle.asp.specs.Program.{Head, constraint, plain, choice, Rule, RuleIn}
+use Rattle.asp.specs.Program.{RuleIn}
 use Rattle.asp.specs.Stable.{holds}
-use Rattle.asp.specs.Tables.{span, literals_at, named, atoms_at, is_choice, is_weighted, Row, row_at, plain_head, head_at, rule_at, rules_of, RowIn, Formed}
+use Rattle.asp.specs.Tables.{span, literals_at, named, atoms_at, is_choice, is_weighted, Row, plain_head, head_at, rule_at, RowIn}
 use Rattle.asp.proofs.Signed.{abs_neg, clash}
 use Rattle.search.specs.declared.scan.Rest.{Rest}
 use Rattle.search.specs.declared.scan.Rest.TheVariants.{All, One, Off}
-use Rattle.search.specs.declared.scan.Found.{Found}
-use Rattle.search.specs.declared.scan.Found.TheVariants.{Broken, Breaker, Clear}
-use Rattle.search.specs.declared.soft.Violation.{Violation}
-use Rattle.search.specs.declared.soft.Violation.TheVariants.{At, Unviolated}
-use Rattle.search.specs.Trail.{Marked, Trail, literal_of, on, trail_set}
+use Rattle.search.specs.Trail.{Trail, literal_of, on, trail_set}
 use Rattle.search.specs.Places.{side_of, truth_of, truth_at, value_on}
-use Rattle.search.specs.Scan.{Rules, rules, row_of, cond_at, conditions, head_conditions, free_of, meet_of, meets, begins, rest_of, is_all, note_of, scan_from, scan_of}
-use Rattle.search.specs.Soft.{AssumedEntries, wished_at, judged_at, first_of, violated_from, violated_of, FormedSoft}
-use Rattle.search.proofs.ScanLaws.{off_stays}
-use Rattle.search.proofs.StepLaws.{NotBroken}
-use Rattle.search.proofs.Agree.{lit_on, lits_on, head_on, body_on, rule_on, rules_on, soft_on}
+use Rattle.search.specs.Scan.{cond_at, conditions, head_conditions, free_of, meet_of, meets, is_all}
+use Rattle.search.proofs.Agree.{lit_on, lits_on, head_on, rule_on, soft_on}
 use Rattle.search.proofs.TrailTables.{Valued}
-use Rattle.search.proofs.Formed.{plain_head_lem, rule_in}
+use Rattle.search.proofs.Formed.{plain_head_lem}
 
 -- ---- literals that are the same
 

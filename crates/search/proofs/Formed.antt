@@ -1,20 +1,18 @@
 -- What well-formed tables of rules (`Formed` of asp) and of soft literals say at each place. Assumes nothing.
-use mathlib.Core.Path.{◌≡◌, refl, sym, ap, ◌∙◌}
+use mathlib.Core.Path.{◌≡◌, refl}
 use mathlib.Core.Bool.{Bool, true, false}
-use mathlib.Core.List.{List, [], ◌∷◌}
-use mathlib.Core.Logic.{◌⊎◌, inl, inr}
-use Prim.Native.Nat.{ℕ, zero, suc, ◌+◌, ◌-◌, ◌*◌, ◌≤◌, ◌<◌}
-use native.Mathlib.Nat.{eq-or-lt_of_le}
+use mathlib.Core.List.{List}
+use Prim.Native.Nat.{ℕ, zero, suc, ◌+◌, ◌≤◌, ◌<◌}
 use native.Mathlib.Omega.{arith}
 use lib.Dec.{eqb, ltb}
 use lib.IntN.{ℤ, pos, negsuc, nat_abs}
-use lib.ListN.{length, get_or}
+use lib.ListN.{get_or}
 use borrow.Author.Tests.{eqb-true, eqb-false, ltb-true, ltb-false}
 use Rattle.asp.specs.Sets.{In, pick}
-use Rattle.asp.specs.Program.{Literal, Weighed, Body, normal, weighted, Head, constraint, plain, choice, Rule, All, LiteralIn, BodyIn, HeadIn, RuleIn}
-use Rattle.asp.specs.Tables.{span, literals_at, named, atoms_at, is_choice, is_weighted, pair_at, pairs_at, bound_at, Row, row_at, plain_head, head_at, body_at, rule_at, rules_of, RowIn, Formed}
-use Rattle.search.specs.Scan.{rules, row_of, Readable}
-use Rattle.search.specs.Soft.{AssumedEntries, wished_at, ReadableWishes, ReadableSoft, FormedSoft}
+use Rattle.asp.specs.Program.{Weighed, normal, weighted, choice, All, LiteralIn, BodyIn, HeadIn, RuleIn}
+use Rattle.asp.specs.Tables.{span, literals_at, named, atoms_at, is_choice, is_weighted, pair_at, pairs_at, bound_at, Row, row_at, plain_head, rule_at, RowIn, Formed}
+use Rattle.search.specs.Scan.{rules, Readable}
+use Rattle.search.specs.Soft.{AssumedEntries, ReadableSoft, FormedSoft}
 
 -- what holds of all of a span holds at each place
 pub all_span : {A : Type 0} (P : A → Type 0) (f : ℕ → A) (i k : ℕ) → All P (span f i k) → (j : ℕ) → i ≤ j → j < i + k → P (f j)

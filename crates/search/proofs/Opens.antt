@@ -1,5 +1,5 @@
 -- The literal to branch on, on an open trail: of an atom from 1 to n that is undecided. Assumes nothing.
-use mathlib.Core.Path.{◌≡◌, refl, sym, ap, ◌∙◌}
+use mathlib.Core.Path.{◌≡◌, refl, ◌∙◌}
 use mathlib.Core.Bool.{Bool, true, false}
 use mathlib.Core.List.{List, [], ◌∷◌}
 use mathlib.Core.Logic.{◌⊎◌, inl, inr}
@@ -15,8 +15,8 @@ use Rattle.asp.specs.Tables.{Formed}
 use Rattle.asp.proofs.Signed.{abs_neg}
 use Rattle.search.specs.declared.scan.Found.{Found}
 use Rattle.search.specs.declared.scan.Found.TheVariants.{Broken, Breaker, Clear}
-use Rattle.search.specs.Trail.{Marked, Trail, literal_of, on, NotOn}
-use Rattle.search.specs.Places.{side_of, truth_of, truth_at, value_on}
+use Rattle.search.specs.Trail.{Trail, literal_of, on, NotOn}
+use Rattle.search.specs.Places.{side_of, truth_of, value_on}
 use Rattle.search.specs.Scan.{Rules, rules, row_of, cond_at, scan_of}
 use Rattle.search.specs.Soft.{AssumedEntries, wished_at, wish_of, FormedSoft}
 use Rattle.search.specs.Branch.{lowest_from, lowest_of, free_literal, free_branch, branch_of, NotedAs}

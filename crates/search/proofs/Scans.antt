@@ -1,38 +1,35 @@
 -- What the scans find: the first broken rule, or that no rule is broken; a violated soft literal, one blamed already before a new one, or that none is violated.
 -- Said of the trail that the values are of. Assumes nothing.
 use mathlib.Core.Path.{◌≡◌, refl, sym, ap, ap₂, ◌∙◌}
-use mathlib.Core.Bool.{Bool, true, false, not, ◌&&◌, ◌||◌}
-use mathlib.Core.List.{List, [], ◌∷◌}
+use mathlib.Core.Bool.{Bool, true, false, ◌&&◌}
+use mathlib.Core.List.{List}
 use mathlib.Core.Logic.{◌⊎◌, inl, inr}
-use Prim.Native.Nat.{ℕ, zero, suc, ◌+◌, ◌-◌, ◌≤◌, ◌<◌}
+use Prim.Native.Nat.{ℕ, zero, suc, ◌+◌, ◌<◌}
 use native.Mathlib.Omega.{arith}
-use lib.Dec.{T, eqb, ltb}
-use lib.IntN.{ℤ, pos, negsuc, neg_ℤ, nat_abs}
-use lib.ListN.{length, get_or}
-use borrow.Author.Tests.{lt-ltb, le-ltb, eqb-true, eqb-false, ltb-true}
-use Rattle.asp.specs.Sets.{Set, In, pick}
-use Rattle.asp.specs.Literal.{same_ℤ, is_negative}
-use Rattle.asp.specs.Program.{Weighed, Body, normal, weighted, Head, constraint, plain, choice, Rule, RuleIn}
-use Rattle.asp.specs.Stable.{holds}
-use Rattle.asp.specs.Tables.{span, literals_at, named, atoms_at, is_choice, is_weighted, is_mixed, pair_at, pairs_at, bound_at, Row, row_at, plain_head, head_at, rule_at, rules_of, RowIn, Formed}
-use Rattle.asp.proofs.Signed.{abs_neg, clash}
+use lib.Dec.{eqb}
+use lib.IntN.{ℤ}
+use lib.ListN.{get_or}
+use borrow.Author.Tests.{eqb-true, eqb-false}
+use Rattle.asp.specs.Sets.{pick}
+use Rattle.asp.specs.Program.{RuleIn}
+use Rattle.asp.specs.Tables.{is_choice, is_weighted, is_mixed, pairs_at, bound_at, Row, row_at, head_at, rule_at, RowIn, Formed}
+use Rattle.asp.proofs.Signed.{clash}
 use Rattle.search.specs.declared.scan.Rest.{Rest}
 use Rattle.search.specs.declared.scan.Rest.TheVariants.{All, One, Off}
 use Rattle.search.specs.declared.scan.Found.{Found}
 use Rattle.search.specs.declared.scan.Found.TheVariants.{Broken, Breaker, Clear}
 use Rattle.search.specs.declared.soft.Violation.{Violation}
 use Rattle.search.specs.declared.soft.Violation.TheVariants.{At, Unviolated}
-use Rattle.search.specs.Trail.{Marked, Trail, literal_of, on, trail_set}
-use Rattle.search.specs.Places.{side_of, truth_of, truth_at, value_on}
-use Rattle.search.specs.Scan.{Rules, rules, row_of, cond_at, conditions, head_conditions, head_rest, weighted_rest, row_rest, meets, begins, rest_of, is_all, note_of, scan_from, scan_of}
+use Rattle.search.specs.Trail.{Trail}
+use Rattle.search.specs.Scan.{rules, conditions, head_conditions, head_rest, weighted_rest, row_rest, meets, begins, rest_of, is_all, note_of, scan_from, scan_of}
 use Rattle.search.specs.Soft.{AssumedEntries, wished_at, judged_at, first_of, violated_from, violated_of, FormedSoft}
 use Rattle.search.proofs.ScanLaws.{off_stays}
 use Rattle.search.proofs.StepLaws.{NotBroken}
-use Rattle.search.proofs.Agree.{lit_on, lits_on, head_on, body_on, rule_on, rules_on, soft_on}
+use Rattle.search.proofs.Agree.{head_on, rule_on, soft_on}
 use Rattle.search.proofs.TrailTables.{Valued}
-use Rattle.search.proofs.Formed.{plain_head_lem, rule_in}
-use Rattle.search.specs.Weigh.{body_rest, both_rest}
-use Rattle.search.proofs.Conditions.{true_on, false_on, meets_all, plain_on, conds_on, heads_on}
+use Rattle.search.proofs.Formed.{rule_in}
+use Rattle.search.specs.Weigh.{both_rest}
+use Rattle.search.proofs.Conditions.{false_on, meets_all, conds_on, heads_on}
 use Rattle.search.proofs.WeighLaws.{body_all, both_all, row_pairs, row_signed}
 
 module _ (v : List ℕ) (t : Trail) (w : Valued v t) where

@@ -1,22 +1,22 @@
 -- The search, for any class of sets that is sought, any soft literals that are assumed, and any test of a trail that is right (`Says`): an advance keeps what was
 -- refuted refuted and the trail well formed, and its count stays within what the trail has spent, below 2 ^ (n + 1) - 1. Assumes nothing.
-use mathlib.Core.Path.{◌≡◌, refl, sym, ap, ◌∙◌, subst}
-use mathlib.Core.Bool.{Bool, true, false, not, ◌&&◌, ◌||◌}
+use mathlib.Core.Path.{◌≡◌, refl, sym, subst}
+use mathlib.Core.Bool.{Bool, true, false, ◌||◌}
 use mathlib.Core.List.{List, [], ◌∷◌}
 use mathlib.Core.Option.{Option, none, some}
-use mathlib.Core.Logic.{◌⊎◌, inl, inr, ⊎_elim}
-use Prim.Native.Nat.{ℕ, zero, suc, ◌+◌, ◌-◌, ◌^◌, ◌≤◌, ◌<◌}
+use mathlib.Core.Logic.{⊎_elim}
+use Prim.Native.Nat.{ℕ, suc, ◌+◌, ◌^◌, ◌≤◌, ◌<◌}
 use native.Mathlib.Omega.{arith}
 use lib.Dec.{T, eqb}
 use lib.IntN.{ℤ, neg_ℤ, nat_abs, neg_ℤ-neg_ℤ}
 use lib.ListN.{length}
 use mir.Facts.{or_yes, eqb_yes, yes_eqb}
 use Rattle.asp.specs.Sets.{Set, In, pick}
-use Rattle.asp.specs.Program.{Literal, All, Out, Distinct}
+use Rattle.asp.specs.Program.{All, Out, Distinct}
 use Rattle.asp.specs.Stable.{holds, member}
 use Rattle.asp.proofs.Signed.{abs_neg}
 use Rattle.asp.proofs.Literals.{holds_complement}
-use Rattle.search.specs.Trail.{Marked, decision, flipped, Trail, literal_of, NotOn, FormedTrail, Agrees, trail_set, flip}
+use Rattle.search.specs.Trail.{decision, flipped, Trail, NotOn, FormedTrail, Agrees, trail_set, flip}
 use Rattle.search.specs.Machine.{Verdict, open', conflict, wanted, QueryState, running, without, model, blame, resume, advance_by}
 use Rattle.search.proofs.Spent.{spent, spent_le, Dearer, flip_dearer}
 

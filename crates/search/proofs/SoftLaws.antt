@@ -1,25 +1,21 @@
 -- The equations that the scans over the assumed soft literals follow, and what holds in their loops. Assumes nothing.
-use mathlib.Core.Path.{◌≡◌, refl, sym, ap, ◌∙◌}
-use mathlib.Core.Bool.{Bool, true, false}
-use mathlib.Core.List.{List, [], ◌∷◌}
-use Prim.Native.Nat.{ℕ, zero, suc, ◌+◌, ◌-◌, ◌≤◌, ◌<◌}
+use mathlib.Core.Path.{◌≡◌, sym, ◌∙◌}
+use mathlib.Core.List.{List}
+use Prim.Native.Nat.{ℕ, suc, ◌+◌, ◌-◌, ◌≤◌, ◌<◌}
 use native.Mathlib.Nat.{sub-zero}
 use native.Mathlib.Omega.{arith}
-use lib.Dec.{eqb}
 use lib.IntN.{ℤ, pos, nat_abs}
 use lib.ListN.{length, get_or}
 use mir.Syntax.{w32}
 use mir.Val.{to_z, of_z}
 use mir.Facts.{to_z-of_z}
 use borrow.Author.Tests.{eq-eqb, ne_eqb}
-use Rattle.asp.specs.Sets.{pick}
 use Rattle.asp.proofs.Signed.{small_fits}
 use Rattle.search.specs.Places.{truth_at}
 use Rattle.search.specs.declared.soft.Violation.{Violation}
 use Rattle.search.specs.declared.soft.Violation.TheVariants.{At, Unviolated}
-use Rattle.search.specs.declared.soft.Wish.{Wish}
 use Rattle.search.specs.declared.soft.Wish.TheVariants.{For, Decided}
-use Rattle.search.specs.Soft.{AssumedEntries, assumed_entries, judged_at, first_of, violated_from, violated_of, wish_from, wish_of, ReadableWishes, ReadableSoft}
+use Rattle.search.specs.Soft.{AssumedEntries, judged_at, first_of, violated_from, violated_of, wish_from, wish_of, ReadableWishes, ReadableSoft}
 
 -- ---- the violated one
 

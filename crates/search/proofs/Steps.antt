@@ -5,7 +5,7 @@ use mathlib.Core.Bool.{Bool, true, false, not}
 use mathlib.Core.List.{List, [], ◌∷◌}
 use mathlib.Core.Logic.{◌⊎◌, inl, inr}
 use mathlib.Core.Option.{Option, none, some}
-use Prim.Native.Nat.{ℕ, zero, suc, ◌+◌, ◌^◌, ◌<◌, ◌≤◌}
+use Prim.Native.Nat.{ℕ, zero, suc, ◌+◌, ◌<◌, ◌≤◌}
 use native.Mathlib.Omega.{arith}
 use lib.Dec.{T, eqb}
 use lib.IntN.{ℤ, pos, negsuc, nat_abs}
@@ -15,34 +15,33 @@ use borrow.Author.Tests.{eq-eqb, ne_eqb, eqb-true, eqb-false}
 use lib.Seq.{ext_get_or}
 use Rattle.asp.specs.Sets.{Set, In, Only, pick, set_of}
 use Rattle.asp.specs.Literal.{is_negative}
-use Rattle.asp.specs.Program.{Rule, All, RuleIn}
+use Rattle.asp.specs.Program.{Rule, All}
 use Rattle.asp.specs.Stable.{holds}
 use Rattle.asp.specs.Tables.{span, literals_at, row_at, rule_at, rules_of, Formed}
 use Rattle.search.specs.declared.scan.Found.{Found}
 use Rattle.search.specs.declared.scan.Found.TheVariants.{Broken, Breaker, Clear}
-use Rattle.search.specs.declared.soft.Violation.{Violation}
-use Rattle.search.specs.declared.soft.Violation.TheVariants.{At, Unviolated}
+use Rattle.search.specs.declared.soft.Violation.TheVariants.{At}
 use Rattle.search.specs.declared.step.Tested.{Tested}
 use Rattle.search.specs.declared.step.Tested.TheVariants.{RuleBroken, Full, SoftViolated, Open}
-use Rattle.search.specs.Trail.{Marked, decision, flipped, Trail, literal_of, on, NotOn, FormedTrail, Agrees, InAll, trail_set, flip}
+use Rattle.search.specs.Trail.{decision, Trail, literal_of, NotOn, FormedTrail, Agrees, InAll, trail_set, flip}
 use Rattle.search.specs.Query.{Query, broken_in, violated_in, Some, HoldsAll, RuleFails, SoftFails, Wanted, Conflict, IsOpen}
-use Rattle.search.specs.Machine.{Verdict, open', conflict, wanted, QueryState, running, without, model, blame, resume, advance_by}
+use Rattle.search.specs.Machine.{Verdict, open', conflict, wanted, running, blame, resume, advance_by}
 use Rattle.search.specs.declared.trail.Places.{Places}
-use Rattle.search.specs.Places.{places, fresh_places, side_of, put_of, push_of, back_of, Good, trail_at, trail_of, value_on, SoundTrail}
+use Rattle.search.specs.Places.{places, fresh_places, side_of, push_of, back_of, trail_at, trail_of, value_on, SoundTrail}
 use Rattle.search.specs.Scan.{Rules, rules, scan_of}
 use Rattle.search.specs.Soft.{AssumedEntries, wished_at, violated_of, FormedSoft}
 use Rattle.search.specs.Branch.{branch_of}
-use Rattle.search.specs.Step.{test_of, Stepped, stepped, moved_by, step_of}
+use Rattle.search.specs.Step.{test_of, moved_by, step_of}
 use Rattle.search.specs.Link.{table_query, verdict_of, back_state, state_by, state_of}
 use Rattle.search.proofs.PlacesLaws.{good_put, good_back}
 use Rattle.search.proofs.StepLaws.{NotBroken, Told, told}
 use Rattle.search.proofs.Counts.{short, short_off, off_short, on_not, all_on}
 use Rattle.search.proofs.Search.{Dead, OnSome, flip_formed, Problem, Sought, Says, GoodTrail, NoneMeets, good_advance, Paid, paid_advance}
-use Rattle.search.proofs.Spent.{spent, spent_le, Dearer, flip_dearer}
+use Rattle.search.proofs.Spent.{spent, Dearer}
 use Rattle.search.proofs.Search as theory
-use Rattle.search.proofs.Agree.{lit_on, rule_on, rules_on, soft_on, rule_all, all_rule, rules_all, all_rules, soft_all, all_soft, full_is, set_agrees}
+use Rattle.search.proofs.Agree.{rule_on, soft_on, rule_all, all_rule, soft_all, all_soft, full_is, set_agrees}
 use Rattle.search.proofs.Formed.{rule_in}
-use Rattle.search.proofs.TrailTables.{Valued, Empty, BackSays, Rest, back_says, put_trail, put_values, put_empty, trail_length}
+use Rattle.search.proofs.TrailTables.{BackSays, Rest, back_says, put_trail, put_values, put_empty, trail_length}
 use Rattle.search.proofs.Scans.{ScanSays, scan_says, ViolatedSays, violated_says}
 use Rattle.search.proofs.Opens.{Undecided, zero_off, branch_undecided}
 use Rattle.search.proofs.Unbroken.{NoneBroken, fails_none}

@@ -11,7 +11,7 @@ use lib.IntN.{ℤ, pos, negsuc, neg_ℤ, nat_abs}
 use borrow.Author.Tests.{eq-eqb, ne_eqb}
 use Rattle.asp.specs.Sets.{Set, In, pick}
 use Rattle.asp.specs.Literal.{same_ℤ}
-use Rattle.asp.specs.Program.{Literal, Weighed, All, LiteralIn}
+use Rattle.asp.specs.Program.{Weighed, All, LiteralIn}
 use Rattle.asp.specs.Stable.{holds, counts}
 use Rattle.search.specs.Weigh.{total}
 

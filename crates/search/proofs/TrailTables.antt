@@ -1,9 +1,9 @@
 -- What a store to the tables of a trail is for its trail. Assumes nothing.
 use mathlib.Core.Path.{◌≡◌, refl, sym, ap, ◌∙◌}
-use mathlib.Core.Bool.{Bool, true, false, not}
+use mathlib.Core.Bool.{Bool, true, false}
 use mathlib.Core.List.{List, [], ◌∷◌}
 use mathlib.Core.Option.{Option, none, some}
-use Prim.Native.Nat.{ℕ, zero, suc, ◌+◌, ◌-◌, ◌<◌, ◌≤◌}
+use Prim.Native.Nat.{ℕ, zero, suc, ◌<◌, ◌≤◌}
 use native.Mathlib.Numerals.{add-one}
 use native.Mathlib.Omega.{arith}
 use lib.Dec.{eqb}
@@ -13,9 +13,9 @@ use lib.Seq.{get_or-set_same, get_or-set_other}
 use borrow.Author.Tests.{ne_eqb, eqb-true, eqb-false}
 use Rattle.asp.specs.Sets.{pick}
 use Rattle.asp.proofs.Signed.{abs_neg}
-use Rattle.search.specs.Trail.{Marked, decision, flipped, Trail, literal_of, NotOn, FormedTrail, flip}
+use Rattle.search.specs.Trail.{flipped, Trail, literal_of, NotOn, FormedTrail, flip}
 use Rattle.search.specs.declared.trail.Places.{Places}
-use Rattle.search.specs.Places.{places, side_of, put_of, drop_of, back_from, back_of, Good, marked_by, trail_at, trail_of, value_on}
+use Rattle.search.specs.Places.{places, side_of, put_of, drop_of, back_from, Good, marked_by, trail_at, trail_of, value_on}
 use Rattle.search.proofs.PlacesLaws.{good_drop}
 
 pub literal_marked : (b : Bool) (l : ℤ) → literal_of (marked_by b l) ≡ l

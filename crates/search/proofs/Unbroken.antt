@@ -1,10 +1,10 @@
 -- A stable model breaks no rule. Assumes nothing.
 use mathlib.Core.Path.{◌≡◌, refl}
-use mathlib.Core.Bool.{Bool, true, false, not, ◌&&◌, ◌||◌}
+use mathlib.Core.Bool.{Bool, true, false, not, ◌||◌}
 use mathlib.Core.List.{List, [], ◌∷◌}
-use mathlib.Core.Logic.{◌⊎◌, inl, inr}
+use mathlib.Core.Logic.{inl, inr}
 use Prim.Native.Nat.{ℕ}
-use lib.Dec.{T, eqb, eqb_refl}
+use lib.Dec.{T, eqb_refl}
 use mir.Facts.{and_yes, yes_and, T_not}
 use Rattle.asp.specs.Sets.{Set}
 use Rattle.asp.specs.Program.{Head, constraint, plain, choice, Rule, All}

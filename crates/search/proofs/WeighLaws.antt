@@ -1,18 +1,18 @@
 -- Order 2: what is left of a weighted body, under the values of a trail, is right: nothing just if the body holds in every set that agrees with the trail; one
 -- literal only if it holds in every set that agrees with the trail and that literal. Assumes nothing.
 use mathlib.Core.Path.{◌≡◌, refl, sym, ap, ap₂, ◌∙◌}
-use mathlib.Core.Bool.{Bool, true, false, not, ◌&&◌, ◌||◌}
-use mathlib.Core.List.{List, [], ◌∷◌, map}
+use mathlib.Core.Bool.{Bool, true, false, not, ◌&&◌}
+use mathlib.Core.List.{List, [], ◌∷◌}
 use mathlib.Core.Logic.{◌⊎◌, inl, inr}
-use Prim.Native.Nat.{ℕ, zero, suc, ◌+◌, ◌-◌, ◌≤◌, ◌<◌, min}
+use Prim.Native.Nat.{ℕ, zero, suc, ◌+◌, ◌-◌, ◌≤◌, min}
 use native.Mathlib.Omega.{arith}
 use lib.Dec.{T, eqb, leb, leb→le, le→leb}
 use lib.IntN.{ℤ, pos, negsuc, neg_ℤ, nat_abs, neg_ℤ-neg_ℤ}
-use mir.Facts.{and_yes, yes_and}
+use mir.Facts.{and_yes}
 use borrow.Author.Tests.{eq-eqb, eqb-true}
-use Rattle.asp.specs.Sets.{Set, In, pick}
+use Rattle.asp.specs.Sets.{pick}
 use Rattle.asp.specs.Literal.{same_ℤ, one_signed}
-use Rattle.asp.specs.Program.{Literal, Weighed, Body, weighted, LiteralIn, RuleIn}
+use Rattle.asp.specs.Program.{Weighed, weighted, LiteralIn, RuleIn}
 use Rattle.asp.specs.Stable.{holds}
 use Rattle.asp.specs.Tables.{literals_at, is_weighted, is_mixed, pair_at, pairs_at, Row, rule_at, RowIn}
 use Rattle.asp.proofs.Pairs.{body_weighted}
@@ -21,14 +21,14 @@ use Rattle.asp.proofs.Signed.{clash}
 use Rattle.search.specs.declared.scan.Rest.{Rest}
 use Rattle.search.specs.declared.scan.Rest.TheVariants.{All, One, Off}
 use Rattle.search.specs.Trail.{decision, Trail, on, NotOn, trail_set}
-use Rattle.search.specs.Places.{truth_of, truth_at, value_on, side_of}
-use Rattle.search.specs.Scan.{meets, is_all}
+use Rattle.search.specs.Places.{truth_of, truth_at, side_of}
+use Rattle.search.specs.Scan.{is_all}
 use Rattle.search.specs.Weigh.{total, gain, literals_of, owed_pair, owed_at, met_at, least_at, worth, breaker_of, body_rest, both_rest}
 use Rattle.search.proofs.TrailTables.{Valued, value_off}
 use Rattle.search.proofs.Opens.{zero_off}
 use Rattle.search.proofs.Counts.{not_on, on_not}
 use Rattle.search.proofs.Totals.{PairsIn}
-use Rattle.search.proofs.Agree.{lit_on, lits_on, owed, pair_owed, body_on}
+use Rattle.search.proofs.Agree.{owed, pair_owed, body_on}
 use Rattle.search.proofs.Weighing.{unmixed, signed_unmixed, met, owed_unmixed, owed_rises}
 use Rattle.search.proofs.Conditions.{true_on, same_is}
 

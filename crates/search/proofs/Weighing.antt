@@ -3,20 +3,20 @@
 use mathlib.Core.Path.{◌≡◌, refl, sym, ap, ◌∙◌}
 use mathlib.Core.Bool.{Bool, true, false, not, ◌&&◌, ◌||◌}
 use mathlib.Core.List.{List, [], ◌∷◌}
-use Prim.Native.Nat.{ℕ, zero, suc, ◌+◌, ◌-◌, ◌≤◌, ◌<◌, min}
+use Prim.Native.Nat.{ℕ, zero, suc, ◌+◌, ◌-◌, min}
 use native.Mathlib.Omega.{arith}
 use lib.Dec.{T, eqb, leb}
 use lib.IntN.{ℤ, pos, negsuc, neg_ℤ, nat_abs}
 use mir.Facts.{and_yes}
 use borrow.Author.Tests.{eq-eqb, ne_eqb, eqb-true}
-use Rattle.asp.specs.Sets.{Set, In, pick}
-use Rattle.asp.specs.Literal.{same_ℤ, is_negative, occurs_among, one_signed}
-use Rattle.asp.specs.Program.{Literal, Weighed, Body, weighted, All, LiteralIn}
+use Rattle.asp.specs.Sets.{pick}
+use Rattle.asp.specs.Literal.{same_ℤ, occurs_among, one_signed}
+use Rattle.asp.specs.Program.{Weighed, weighted, LiteralIn}
 use Rattle.asp.specs.Stable.{holds}
 use Rattle.search.specs.Trail.{decision, Trail, on, NotOn, trail_set}
 use Rattle.search.specs.Weigh.{total, gain, literals_of}
 use Rattle.search.proofs.Counts.{on_not}
-use Rattle.search.proofs.Totals.{PairsIn, sum_to, sum_at, by_atoms}
+use Rattle.search.proofs.Totals.{PairsIn, sum_at}
 use Rattle.search.proofs.Agree.{owed, pair_owed, side_on, owed_by, body_on}
 
 -- ---- a literal is added

@@ -1,6 +1,6 @@
 -- What the tables' test and step are for the machine over trails. Assumes nothing: these are definitions.
-use Rattle.std.specs.Prelude.{List, ℕ, eqb, ℤ}
-use Rattle.std.proofs.Math.Option.{Option, none, some}
+use Rattle.std.specs.Prelude.{List, ℕ, eqb}
+use Rattle.std.proofs.Math.Option.{none, some}
 use Rattle.asp.specs.Sets.{Set, pick}
 use Rattle.asp.specs.Tables.{literals_at, rules_of}
 use Rattle.search.specs.declared.trail.Places.{Places}

@@ -1,5 +1,5 @@
 -- One advance of a query over its trail, for any test of a trail: "An advance does one of these". Branching and blame are the test's. Assumes nothing: these are definitions.
-use Rattle.std.specs.Prelude.{List, [], ◌∷◌, ℕ, zero, suc}
+use Rattle.std.specs.Prelude.{List, ◌∷◌, ℕ}
 use Rattle.std.proofs.Math.Option.{Option, none, some}
 use Rattle.asp.specs.Sets.{Set, pick}
 use Rattle.asp.specs.Program.{Literal}

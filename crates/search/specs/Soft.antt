@@ -1,5 +1,5 @@
 -- The assumed soft literals of entries under the values of a trail: "A wish is broken where it is unmet". Assumes nothing: these are definitions.
-use Rattle.std.specs.Prelude.{◌≡◌, Bool, true, false, List, [], ◌∷◌, ℕ, zero, suc, ◌+◌, ◌<◌, ◌≤◌, eqb, ℤ, pos, nat_abs, length, get_or}
+use Rattle.std.specs.Prelude.{List, [], ◌∷◌, ℕ, zero, suc, ◌+◌, ◌<◌, ◌≤◌, eqb, ℤ, pos, nat_abs, length, get_or}
 use Rattle.asp.specs.Sets.{Set, In, pick}
 use Rattle.search.specs.Places.{truth_at}
 use Rattle.search.specs.declared.soft.Violation.{Violation}

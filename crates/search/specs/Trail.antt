@@ -1,5 +1,5 @@
 -- The trail (document 01's path) as a list, and the sets that agree with it. Assumes nothing: these are definitions.
-use Rattle.std.specs.Prelude.{Bool, true, false, not, ◌||◌, List, [], ◌∷◌, ◌≡◌, ℕ, T, eqb, neg_ℤ, nat_abs}
+use Rattle.std.specs.Prelude.{false, not, ◌||◌, List, [], ◌∷◌, ◌≡◌, ℕ, T, eqb, neg_ℤ, nat_abs}
 use Rattle.std.proofs.Math.Option.{Option, none, some}
 use Rattle.asp.specs.Sets.{Set, In, pick}
 use Rattle.asp.specs.Literal.{is_negative}

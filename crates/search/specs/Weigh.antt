@@ -1,8 +1,8 @@
 -- Order 2: a weighted body under the values of a trail: the least that it counts in the sets that agree with the trail, and the literal to note. `mixed` tells
 -- whether some atom stands in the body with both signs; where none does, no pair is compared with another. Assumes nothing: these are definitions.
-use Rattle.std.specs.Prelude.{Bool, true, false, not, ◌&&◌, List, [], ◌∷◌, map, ℕ, zero, suc, ◌+◌, ◌-◌, min, eqb, leb, ℤ, pos, neg_ℤ, get_or}
+use Rattle.std.specs.Prelude.{Bool, ◌&&◌, List, [], ◌∷◌, map, ℕ, ◌+◌, ◌-◌, min, eqb, leb, ℤ, pos, neg_ℤ, get_or}
 use Rattle.asp.specs.Sets.{pick}
-use Rattle.asp.specs.Literal.{same_ℤ, one_signed}
+use Rattle.asp.specs.Literal.{same_ℤ}
 use Rattle.asp.specs.Program.{Literal, Weighed}
 use Rattle.search.specs.Places.{truth_at}
 use Rattle.search.specs.declared.scan.Rest.{Rest}

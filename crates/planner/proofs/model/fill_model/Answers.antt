@@ -4,7 +4,7 @@ use Rattle.planner.proofs.Filling.{front_starts, front_steps, front_short}
 use Rattle.planner.proofs.model.fill_model.Goals as goal
 
 pub returns-then-bytes-n : goal.returns-then-bytes-n
-returns-then-bytes-n c = front_short (byte_of (set_of c.args.t1)) _ _ c.if-bytes-n.true
+returns-then-bytes-n c = front_short (byte_of (set_of c.args.best)) _ _ c.if-bytes-n.true
 
 pub loop-i-init : goal.loop-i-init
 loop-i-init c = front_starts c.if-bytes-n.false
