@@ -42,7 +42,7 @@ swap a b c d = simp (+ℤ_assoc, +ℤ_comm, left_comm)
 
 pub paid_atom : (l w : ℤ) → nat_abs (paid_literal l w) ≡ nat_abs l
 paid_atom l (pos w) = refl
-paid_atom l (negsuc w) = abs_neg l
+paid_atom l (negsuc w) = search abs_neg
 
 -- ---- one entry: "It counts as a fixed -w and a wish of weight w for the literal itself."
 
@@ -52,8 +52,12 @@ entry_is M l (pos w) h = go (holds M l)
     go : (b : Bool) → pick b (pos w) (pos 0) ≡ pos 0 +ℤ pos (pick b w 0)
     go true = sym (+ℤ_idl (pos w))
     go false = refl
-entry_is M l (negsuc w) h = rw (holds_complement M l h) (go (holds M l))
+entry_is M l (negsuc w) h = rw wished (go (holds M l))
   where
+    -- the literal that costs is the complement
+    wished : holds M (paid_literal l (negsuc w)) ≡ not (holds M l)
+    wished = holds_complement M l h
+
     go : (b : Bool) → pick b (negsuc w) (pos 0) ≡ negsuc w +ℤ pos (pick (not b) (suc w) 0)
     go true = sym (+ℤ_idr (negsuc w))
     go false = sym (+ℤ_invl (pos (suc w)))
@@ -69,7 +73,7 @@ cost_is M (e ∷ es) h =
 
 -- "sum the weights without their signs": what the penalties weigh
 pub bulk_is : (es : List Entry) → bulk (penalties es) ≡ weight es
-unfolding total
+unfolding total total_ℤ
 bulk_is [] = refl
 bulk_is (e ∷ es) = ap (λ (x : ℕ). nat_abs e.weight + x) (bulk_is es)
 

@@ -69,7 +69,7 @@ module _ (g : Rules) (o : Index) (w v : List ℕ) (a : ℕ) where
     marked = record { long = k.marked.long; broken = k.marked.broken; low = k.marked.low; zero = k.marked.zero };
     small = k.small;
     each = k.each;
-    below = record { decided = λ j p q. k.below.decided j p (least_le j a t.marks.atom q).1 };
+    below = record { decided = λ j p q. k.below.decided j p (least_le j _ t.marks.atom q).1 };
   }
 
 -- the number of a rule with a weighted body is small

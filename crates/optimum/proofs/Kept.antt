@@ -151,7 +151,7 @@ module _ (S : Given) where
 
   none_kept : (c : ℕ) (w : Work) (ms : List ℕ) → GoodWork S w → 1 ≤ w.stratum → Core (problem (Among S w) w.level) w.tables w.stratum ms
       → Paid S (with_core w ms) c 0 → Inv S (no_model c w ms)
-  none_kept c w ms g s1 k h = go (room w.tables ms) refl
+  none_kept c w ms g s1 k h = go _ refl
     where
       go : (b : Bool) → room w.tables ms ≡ b → Inv S (pick b (settle c (with_core w ms)) (full c w))
       go true e = settle_kept c (with_core w ms) (core_work w ms g s1 k) (λ u. s1) h
@@ -180,7 +180,7 @@ module _ (S : Given) where
   found_kept : (c : ℕ) (w : Work) (M : Set) → GoodWork S w → 1 ≤ w.stratum → search.Sought (level_query S w) M → (x : ℕ) → x + 2 ≤ power S → Paid S w c x
       → Inv S (settle (suc c) (with_model levels w M))
   found_kept c w M g s1 h x k p =
-      settle_kept (suc c) (with_model levels w M) (model_work w M g h.0) (λ u. go u (below_or (under w.stratum w.tables.rests) 1))
+      settle_kept (suc c) (with_model levels w M) (model_work w M g h.0) (λ u. omega (arith, s1, go u (below_or (under w.stratum w.tables.rests) 1)))
       (paid_fall c (weights w.past) w.tables.lower (bulk w.level) w.stratum (under w.stratum w.tables.rests) x (power S) p k (under_lt w.stratum w.tables.rests s1))
     where
       go : charge (better levels M w.best) w.level ≢ w.tables.lower → (under w.stratum w.tables.rests < 1) ⊎ (1 ≤ under w.stratum w.tables.rests)
