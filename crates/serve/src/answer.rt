@@ -1,5 +1,4 @@
 // The answers of the service, in print.
-ghost use Rattle.std.specs.Prelude.{IfOk};
 ghost use Rattle.planner.specs.Sound.{Sound};
 
 use crate::command::Command;
@@ -26,18 +25,17 @@ fn refused(rt: &impl Print, c: u32) -> io::Result<()> {
 
 // ---- commands that change the service
 
-pub fn load(rt: &impl Print, input: &mut impl Read, s: Service, size: u32) -> io::Result<Service>
-    requires { Sound s }
-    ensures { IfOk result (λ t. Sound t) }
+pub fn load(rt: &impl Print, input: &mut impl Read, s: &mut Service, size: u32) -> io::Result<()>
+    requires { Sound s.old }
+    ensures { Sound s.new }
 {
     let mut bytes = [0u8; 65537];
     let m = input::at_most(size, 65537);
     let k = input::read(input, &mut bytes, m)?;
     input::skip(input, size - m)?;
-    let r = planner::load::load(s, planner::fill::front(&bytes, k as usize));
-    let a = r.answer;
-    loading(rt, a)?;
-    Ok(r.service)
+    let r = planner::load::load(*s, planner::fill::front(&bytes, k as usize));
+    *s = r.service;
+    loading(rt, r.answer)
 }
 
 fn loading(rt: &impl Print, a: Loading) -> io::Result<()> {
@@ -47,14 +45,13 @@ fn loading(rt: &impl Print, a: Loading) -> io::Result<()> {
     }
 }
 
-pub fn advance(rt: &impl Print, s: Service) -> io::Result<Service>
-    requires { Sound s }
-    ensures { IfOk result (λ t. Sound t) }
+pub fn advance(rt: &impl Print, s: &mut Service) -> io::Result<()>
+    requires { Sound s.old }
+    ensures { Sound s.new }
 {
-    let r = planner::advance::advance(s);
-    let a = r.answer;
-    advancing(rt, a)?;
-    Ok(r.service)
+    let r = planner::advance::advance(*s);
+    *s = r.service;
+    advancing(rt, r.answer)
 }
 
 fn advancing(rt: &impl Print, a: Advancing) -> io::Result<()> {
@@ -67,14 +64,13 @@ fn advancing(rt: &impl Print, a: Advancing) -> io::Result<()> {
     }
 }
 
-pub fn run(rt: &impl Print, s: Service, budget: u32) -> io::Result<Service>
-    requires { Sound s }
-    ensures { IfOk result (λ t. Sound t) }
+pub fn run(rt: &impl Print, s: &mut Service, budget: u32) -> io::Result<()>
+    requires { Sound s.old }
+    ensures { Sound s.new }
 {
-    let r = planner::advance::run(s, budget);
-    let a = r.answer;
-    running(rt, a)?;
-    Ok(r.service)
+    let r = planner::advance::run(*s, budget);
+    *s = r.service;
+    running(rt, r.answer)
 }
 
 fn running(rt: &impl Print, a: Running) -> io::Result<()> {
@@ -89,17 +85,17 @@ fn running(rt: &impl Print, a: Running) -> io::Result<()> {
     }
 }
 
-pub fn clear(rt: &impl Print, s: Service) -> io::Result<Service>
-    ensures { IfOk result (λ t. Sound t) }
+pub fn clear(rt: &impl Print, s: &mut Service) -> io::Result<()>
+    ensures { Sound s.new }
 {
-    text(rt, b"cleared\n")?;
-    Ok(planner::service::clear(s))
+    *s = planner::service::clear(*s);
+    text(rt, b"cleared\n")
 }
 
 // ---- commands that leave it as it is
 
-pub fn of_command(rt: &impl Print, s: Service, c: Command) -> io::Result<()>
-    requires { Sound s }
+pub fn of_command(rt: &impl Print, s: &Service, c: Command) -> io::Result<()>
+    requires { Sound s.now }
 {
     match c {
         Command::Look => look(rt, s),
@@ -118,10 +114,10 @@ pub fn of_command(rt: &impl Print, s: Service, c: Command) -> io::Result<()>
     }
 }
 
-fn look(rt: &impl Print, s: Service) -> io::Result<()>
-    requires { Sound s }
+fn look(rt: &impl Print, s: &Service) -> io::Result<()>
+    requires { Sound s.now }
 {
-    let r = planner::look::look(s);
+    let r = planner::look::look(*s);
     let v = r.view;
     view(rt, v)
 }
@@ -173,18 +169,18 @@ fn is_filled(a: Fill) -> bool {
     }
 }
 
-fn write(rt: &impl Print, s: Service, room: u32) -> io::Result<()>
-    requires { Sound s }
+fn write(rt: &impl Print, s: &Service, room: u32) -> io::Result<()>
+    requires { Sound s.now }
 {
     let mut bytes = [0u8; 65536];
     let k = input::at_most(room, 65536) as usize;
     write_into(rt, s, &mut bytes[0..k])
 }
 
-fn write_into(rt: &impl Print, s: Service, bytes: &mut [u8]) -> io::Result<()>
-    requires { Sound s }
+fn write_into(rt: &impl Print, s: &Service, bytes: &mut [u8]) -> io::Result<()>
+    requires { Sound s.now }
 {
-    let r = planner::write::write(s, bytes);
+    let r = planner::write::write(*s, bytes);
     let a = r.answer;
     if is_filled(a) {
         written(rt, planner::fill::part(a, bytes))?;
@@ -199,18 +195,18 @@ fn written(rt: &impl Print, t: &[u8]) -> io::Result<()> {
     text(rt, t)
 }
 
-fn model(rt: &impl Print, s: Service, room: u32) -> io::Result<()>
-    requires { Sound s }
+fn model(rt: &impl Print, s: &Service, room: u32) -> io::Result<()>
+    requires { Sound s.now }
 {
     let mut bytes = [0u8; 1024];
     let k = input::at_most(room, 1024) as usize;
     model_into(rt, s, &mut bytes[0..k])
 }
 
-fn model_into(rt: &impl Print, s: Service, bytes: &mut [u8]) -> io::Result<()>
-    requires { Sound s }
+fn model_into(rt: &impl Print, s: &Service, bytes: &mut [u8]) -> io::Result<()>
+    requires { Sound s.now }
 {
-    let r = planner::model::model(s, bytes);
+    let r = planner::model::model(*s, bytes);
     let a = r.answer;
     if is_filled(a) {
         text(rt, b"model ")?;
@@ -233,18 +229,18 @@ fn digits(rt: &impl Print, m: &[u8]) -> io::Result<()> {
     Ok(())
 }
 
-fn symbol(rt: &impl Print, s: Service, at: u32, room: u32) -> io::Result<()>
-    requires { Sound s }
+fn symbol(rt: &impl Print, s: &Service, at: u32, room: u32) -> io::Result<()>
+    requires { Sound s.now }
 {
     let mut bytes = [0u8; 64];
     let k = input::at_most(room, 64) as usize;
     name_into(rt, s, at as usize, &mut bytes[0..k])
 }
 
-fn name_into(rt: &impl Print, s: Service, at: usize, bytes: &mut [u8]) -> io::Result<()>
-    requires { Sound s }
+fn name_into(rt: &impl Print, s: &Service, at: usize, bytes: &mut [u8]) -> io::Result<()>
+    requires { Sound s.now }
 {
-    let r = planner::symbol::name(s, at, bytes);
+    let r = planner::symbol::name(*s, at, bytes);
     let a = r.answer;
     if is_filled(a) {
         named(rt, planner::fill::part(a, bytes))?;
@@ -260,10 +256,10 @@ fn named(rt: &impl Print, t: &[u8]) -> io::Result<()> {
     line(rt)
 }
 
-fn shown(rt: &impl Print, s: Service, at: u32) -> io::Result<()>
-    requires { Sound s }
+fn shown(rt: &impl Print, s: &Service, at: u32) -> io::Result<()>
+    requires { Sound s.now }
 {
-    let r = planner::symbol::shown(s, at as usize);
+    let r = planner::symbol::shown(*s, at as usize);
     let a = r.answer;
     match a {
         Showing::Shown => text(rt, b"shown 1\n"),

@@ -1,7 +1,6 @@
 // The program `serve`: the service on standard input and output, one command a line, one program after another.
 #![tactic(auto)]
 
-ghost use Rattle.std.specs.Prelude.{IfOk};
 ghost use Rattle.planner.specs.Sound.{Sound};
 
 mod answer;
@@ -20,7 +19,7 @@ fn main(rt: HostRuntime) -> io::Result<()> {
     let mut left: u64 = 18446744073709551615;
     while 0 < left {
         let c = next_command(&rt, &mut input)?;
-        s = obey(&rt, &mut input, s, c)?;
+        obey(&rt, &mut input, &mut s, c)?;
         if !command::goes_on(c) {
             return Ok(());
         }
@@ -43,33 +42,32 @@ fn next_command(rt: &impl Print, input: &mut impl Read) -> io::Result<Command> {
     }
 }
 
-fn obey(rt: &impl Print, input: &mut impl Read, s: Service, c: Command) -> io::Result<Service>
-    requires { Sound s }
-    ensures { IfOk result (λ t. Sound t) }
+fn obey(rt: &impl Print, input: &mut impl Read, s: &mut Service, c: Command) -> io::Result<()>
+    requires { Sound s.old }
+    ensures { Sound s.new }
 {
-    let t = changed(rt, input, s, c)?;
-    answer::of_command(rt, t, c)?;
-    Ok(t)
+    changed(rt, input, s, c)?;
+    answer::of_command(rt, s, c)
 }
 
 // The service after a command that changes it, with its answer printed; after another it is as before.
-fn changed(rt: &impl Print, input: &mut impl Read, s: Service, c: Command) -> io::Result<Service>
-    requires { Sound s }
-    ensures { IfOk result (λ t. Sound t) }
+fn changed(rt: &impl Print, input: &mut impl Read, s: &mut Service, c: Command) -> io::Result<()>
+    requires { Sound s.old }
+    ensures { Sound s.new }
 {
     match c {
         Command::Load { size } => answer::load(rt, input, s, size),
         Command::Advance => answer::advance(rt, s),
         Command::Run { budget } => answer::run(rt, s, budget),
         Command::Clear => answer::clear(rt, s),
-        Command::Nothing => Ok(s),
-        Command::Look => Ok(s),
-        Command::Write { room: _ } => Ok(s),
-        Command::Model { room: _ } => Ok(s),
-        Command::Symbol { at: _, room: _ } => Ok(s),
-        Command::Shown { at: _ } => Ok(s),
-        Command::Quit => Ok(s),
-        Command::Unknown => Ok(s),
-        Command::NoNumber => Ok(s),
+        Command::Nothing => Ok(()),
+        Command::Look => Ok(()),
+        Command::Write { room: _ } => Ok(()),
+        Command::Model { room: _ } => Ok(()),
+        Command::Symbol { at: _, room: _ } => Ok(()),
+        Command::Shown { at: _ } => Ok(()),
+        Command::Quit => Ok(()),
+        Command::Unknown => Ok(()),
+        Command::NoNumber => Ok(()),
     }
 }
