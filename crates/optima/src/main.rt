@@ -31,17 +31,15 @@ fn one_text(rt: &(impl Files + Print), name: &[u8]) -> io::Result<()> {
     let s = l.service;
     text(rt, name)?;
     match a {
-        Loading::Accepted => optimize(rt, s),
+        Loading::Accepted => optimize(rt, &s),
         Loading::RefusedAt { number: _, line: _ } => text(rt, b": refused\n"),
     }
 }
 
-fn optimize(rt: &impl Print, s: Service) -> io::Result<()>
-    requires { Sound s }
+fn optimize(rt: &impl Print, s: &Service) -> io::Result<()>
+    requires { Sound s.now }
 {
-    let p = s.stored;
-    let c = p.counts;
-    if c.atoms <= 6 {
+    if s.stored.counts.atoms <= 6 {
         text(rt, b": advance by advance\n")?;
         trace(rt, s)?;
     } else {
@@ -49,28 +47,28 @@ fn optimize(rt: &impl Print, s: Service) -> io::Result<()>
     }
     let t = ran(s);
     text(rt, b"end")?;
-    state(rt, t)?;
+    state(rt, &t)?;
     Ok(())
 }
 
 // Run to its end.
-fn ran(s: Service) -> Service
-    requires { Sound s }
+fn ran(s: &Service) -> Service
+    requires { Sound s.now }
     ensures { Sound result }
 {
-    let r = planner::advance::run(s, 4294967295);
+    let r = planner::advance::run(*s, 4294967295);
     r.service
 }
 
 // One line for each advance until the end, 10,000 at most.
-fn trace(rt: &impl Print, start: Service) -> io::Result<()>
-    requires { Sound start }
+fn trace(rt: &impl Print, start: &Service) -> io::Result<()>
+    requires { Sound start.now }
 {
-    let mut s = start;
+    let mut s = *start;
     let mut i: u32 = 0;
     while i < 10000 {
-        s = advanced(s);
-        if !state(rt, s)? {
+        s = advanced(&s);
+        if !state(rt, &s)? {
             return Ok(());
         }
         i += 1;
@@ -78,19 +76,19 @@ fn trace(rt: &impl Print, start: Service) -> io::Result<()>
     Ok(())
 }
 
-fn advanced(s: Service) -> Service
-    requires { Sound s }
+fn advanced(s: &Service) -> Service
+    requires { Sound s.now }
     ensures { Sound result }
 {
-    let r = planner::advance::advance(s);
+    let r = planner::advance::advance(*s);
     r.service
 }
 
 // A line of the figures; whether the status is running.
-fn state(rt: &impl Print, s: Service) -> io::Result<bool>
-    requires { Sound s }
+fn state(rt: &impl Print, s: &Service) -> io::Result<bool>
+    requires { Sound s.now }
 {
-    let l = planner::look::look(s);
+    let l = planner::look::look(*s);
     let v = l.view;
     let status = v.status;
     bounds(rt, v)?;

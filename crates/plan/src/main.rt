@@ -59,7 +59,7 @@ fn plan_file(
     let a = l.answer;
     let s = l.service;
     match a {
-        Loading::Accepted => plan_program(rt, s, budget),
+        Loading::Accepted => plan_program(rt, &s, budget),
         Loading::RefusedAt { number, line } => console::print::refused_at(rt, number, line),
     }
 }
@@ -105,15 +105,15 @@ fn reason(err: &impl Print, error: io::Error) -> io::Result<()> {
     }
 }
 
-fn plan_program(rt: &impl Print, s: Service, budget: u32) -> io::Result<()>
-    requires { Sound s }
+fn plan_program(rt: &impl Print, s: &Service, budget: u32) -> io::Result<()>
+    requires { Sound s.now }
 {
-    let r = planner::advance::run(s, budget);
+    let r = planner::advance::run(*s, budget);
     let t = r.service;
     let l = planner::look::look(t);
     let v = l.view;
     bounds(rt, v)?;
-    symbols(rt, t)
+    symbols(rt, &t)
 }
 
 // The status and the bounds.
@@ -130,8 +130,8 @@ fn bounds(rt: &impl Print, v: View) -> io::Result<()> {
 }
 
 // The shown symbols, in text order; there are at most 512.
-fn symbols(rt: &impl Print, s: Service) -> io::Result<()>
-    requires { Sound s }
+fn symbols(rt: &impl Print, s: &Service) -> io::Result<()>
+    requires { Sound s.now }
 {
     let mut i: usize = 0;
     while i < 512 {
@@ -144,10 +144,10 @@ fn symbols(rt: &impl Print, s: Service) -> io::Result<()>
 }
 
 // Prints a symbol if it is shown; whether there may be more.
-fn symbol(rt: &impl Print, s: Service, i: usize) -> io::Result<bool>
-    requires { Sound s }
+fn symbol(rt: &impl Print, s: &Service, i: usize) -> io::Result<bool>
+    requires { Sound s.now }
 {
-    let r = planner::symbol::shown(s, i);
+    let r = planner::symbol::shown(*s, i);
     let a = r.answer;
     match a {
         Showing::Shown => {
@@ -161,11 +161,11 @@ fn symbol(rt: &impl Print, s: Service, i: usize) -> io::Result<bool>
     }
 }
 
-fn print_symbol(rt: &impl Print, s: Service, i: usize) -> io::Result<()>
-    requires { Sound s }
+fn print_symbol(rt: &impl Print, s: &Service, i: usize) -> io::Result<()>
+    requires { Sound s.now }
 {
     let mut bytes = [0u8; 64];
-    let r = planner::symbol::name(s, i, &mut bytes);
+    let r = planner::symbol::name(*s, i, &mut bytes);
     let a = r.answer;
     console::print::text(rt, b"shown ")?;
     console::print::text(rt, planner::fill::part(a, &bytes))?;
