@@ -8,7 +8,7 @@ build() {
     command -v rt >/dev/null || { echo "$1: not built yet, and the Rattle kit (rt) is missing" >&2; exit 69; }
     echo "$1: proving and building it first, which takes some minutes" >&2
     log=$(mktemp)
-    (cd "$root" && rt check "$1" && touch "target/bin/$1") >"$log" 2>&1 || { cat "$log" >&2; rm -f "$log"; echo "$1: not built" >&2; exit 69; }
+    (cd "$root/crates/$1" && rt run </dev/null && mkdir -p ../../target/bin && cp "out/$1" "../../target/bin/$1") >"$log" 2>&1 || { cat "$log" >&2; rm -f "$log"; echo "$1: not built" >&2; exit 69; }
     rm -f "$log"
 }
 

@@ -143,11 +143,11 @@ def function(name, program):
     pool, rows = tables(rules)
     found = [sum(1 << (n - a) for a in m) for m in subsets(n) if stable(m, rules)]
     array = lambda xs, t: '[%s]' % ', '.join(['%d%s' % (xs[0], t)] + [str(x) for x in xs[1:]]) if xs else '[0%s; 0]' % t
-    return 'pub fn %s() {\n    say::say(b"program %s\\n");\n    let pool = %s;\n    let rows = %s;\n    let wished = %s;\n    let models = %s;\n    run::run(&pool, &rows, %d, %d, &wished, %d, &models);\n}\n' % (
+    return 'pub fn %s(rt: &impl Print) -> io::Result<()> {\n    say::say(rt, b"program %s\\n")?;\n    let pool = %s;\n    let rows = %s;\n    let wished = %s;\n    let models = %s;\n    run::run(rt, &pool, &rows, %d, %d, &wished, %d, &models)\n}\n' % (
         name, title, array(pool, 'i32'), array(rows, 'u16'), array(wishes, 'i32'), array(found, 'u32'), len(rules), n, len(wishes))
 
 if sys.argv[1:] == ['--weighted']:
-    print('// Order 2: programs with weighted bodies, as `programs` has the others. Written by tests/traces.py.\nuse crate::run;\nuse crate::say;\n')
+    print('// Order 2: programs with weighted bodies, as `programs` has the others. Written by tests/traces.py.\nuse crate::{run, say};\nuse std::io;\n')
     print('\n'.join(function(*x) for x in zip(NAMES, filter(is_weighted, PROGRAMS))), end='')
     sys.exit()
 

@@ -7,7 +7,7 @@ use asp::table::is_weighted;
 use aspif::text::Stored;
 use aspif_fields::token::byte_at;
 
-#[derive(Drop)]
+#[derive(Clone, Copy)]
 pub struct Figures {
     pub atoms: usize,
     pub rules: usize,

@@ -1,22 +1,27 @@
 // Reads texts from standard input, each as its length in eight digits and then its bytes, and prints the answer to each load.
 // An accepted text's answer has figures of its tables and of what is written out; what is written is loaded again, and must give the same figures.
 // tests/aspif_texts.py writes the texts and their answers from document 01 and orders 1 and 2.
+#![tactic(auto)]
+
 mod figures;
 
 use asp::literal::is_negative;
 use aspif::text::{Loading, Stored, load};
 use aspif::write::{Written, write};
 use figures::{Figures, byte, equal, figures_of, magnitude};
-use libc::{STDIN_FILENO, STDOUT_FILENO};
+use std::io;
+use std::io::Read;
 
-fn main() {
+fn main(rt: HostRuntime) -> io::Result<()> {
+    let mut input = rt.stdin();
     let mut i: usize = 0;
     while i < 4096 {
-        if !one_text() {
-            return;
+        if !one_text(&rt, &mut input)? {
+            return Ok(());
         }
         i += 1;
     }
+    Ok(())
 }
 
 // The value of eight digits.
@@ -31,94 +36,98 @@ fn length_of(digits: &[u8]) -> usize {
 }
 
 // One text, until there is none.
-fn one_text() -> bool {
+fn one_text(rt: &impl Print, input: &mut impl Read) -> io::Result<bool> {
     let mut head = [0u8; 8];
-    let got = io::read_full(STDIN_FILENO, &mut head);
+    let got = inputs::fill(input, &mut head)?;
     if got < 8 {
-        return false;
+        return Ok(false);
     }
     let mut text = [0u8; 65600];
-    read_text(length_of(&head), &mut text)
+    read_text(rt, input, length_of(&head), &mut text)
 }
 
-fn read_text(size: usize, text: &mut [u8]) -> bool {
+fn read_text(
+    rt: &impl Print,
+    input: &mut impl Read,
+    size: usize,
+    text: &mut [u8],
+) -> io::Result<bool> {
     if text.len() < size {
-        return false;
+        return Ok(false);
     }
-    let n = io::read_full(STDIN_FILENO, &mut text[0..size]);
+    let n = inputs::fill(input, &mut text[0..size])?;
     if n < size {
-        return false;
+        return Ok(false);
     }
     let s = &text[0..size];
-    answer(s);
-    true
+    answer(rt, s)?;
+    Ok(true)
 }
 
-fn answer(s: &[u8]) {
+fn answer(rt: &impl Print, s: &[u8]) -> io::Result<()> {
     let r = load(s);
     let a = r.answer;
     match a {
         Loading::Accepted => {
             let p = r.stored;
             let mut buffer = [0u8; 65600];
-            accepted(p, &mut buffer);
+            accepted(rt, p, &mut buffer)
         }
         Loading::RefusedAt { number, line } => {
-            io::write_all(STDOUT_FILENO, b"refused ");
-            io::print_decimal(STDOUT_FILENO, number as u64);
-            io::write_all(STDOUT_FILENO, b" at line ");
-            io::print_decimal(STDOUT_FILENO, line as u64);
-            io::write_all(STDOUT_FILENO, b"\n");
+            rt.write_all(b"refused ")?;
+            rt.print(number as u64)?;
+            rt.write_all(b" at line ")?;
+            rt.print(line as u64)?;
+            rt.write_all(b"\n")
         }
     }
 }
 
 // Written out, and loaded again.
-fn accepted(p: Stored, buffer: &mut [u8]) {
+fn accepted(rt: &impl Print, p: Stored, buffer: &mut [u8]) -> io::Result<()> {
     let used = p.counts.text;
     if 65537 < used {
-        return;
+        return Ok(());
     }
     let w = write(&p.text, used, buffer);
     let Written::Length { length } = w else {
-        io::write_all(STDOUT_FILENO, b"short\n");
-        return;
+        return rt.write_all(b"short\n");
     };
-    show(p, buffer, length);
+    show(rt, p, buffer, length)
 }
 
-fn show(p: Stored, buffer: &[u8], length: usize) {
+fn show(rt: &impl Print, p: Stored, buffer: &[u8], length: usize) -> io::Result<()> {
     let f = figures_of(p, buffer);
-    print(f, &p.levels);
+    print(rt, f, &p.levels)?;
     let mut few = [7u8; 16];
-    small(p, &mut few);
+    small(rt, p, &mut few)?;
     if buffer.len() < length {
-        return;
+        return Ok(());
     }
     let text = &buffer[0..length];
     if !again(text, f) {
-        io::write_all(STDOUT_FILENO, b" differs");
+        rt.write_all(b" differs")?;
     }
-    io::write_all(STDOUT_FILENO, b"\n");
+    rt.write_all(b"\n")
 }
 
 // A write into 16 bytes of value 7, and how many of them are left as they were.
-fn small(p: Stored, buffer: &mut [u8]) {
+fn small(rt: &impl Print, p: Stored, buffer: &mut [u8]) -> io::Result<()> {
     let used = p.counts.text;
     if 65537 < used {
-        return;
+        return Ok(());
     }
     let w = write(&p.text, used, buffer);
     match w {
         Written::Length { length } => {
-            io::write_all(STDOUT_FILENO, b" wrote");
-            number(length as u64);
-            number(sevens(buffer, length) as u64);
+            rt.write_all(b" wrote")?;
+            number(rt, length as u64)?;
+            number(rt, sevens(buffer, length) as u64)
         }
         Written::Short { needed } => {
-            io::write_all(STDOUT_FILENO, b" short");
-            number(needed as u64);
-            number(sevens(buffer, 0) as u64);
+            rt.write_all(b" short")?;
+            number(rt, needed as u64)?;
+            number(rt, sevens(buffer, 0) as u64)
         }
     }
 }
@@ -147,35 +156,36 @@ fn again(s: &[u8], f: Figures) -> bool {
     equal(f, figures_of(p, s))
 }
 
-fn number(n: u64) {
-    io::write_all(STDOUT_FILENO, b" ");
-    io::print_decimal(STDOUT_FILENO, n);
+fn number(rt: &impl Print, n: u64) -> io::Result<()> {
+    rt.write_all(b" ")?;
+    rt.print(n)
 }
 
-fn print(f: Figures, levels: &[i32]) {
-    io::write_all(STDOUT_FILENO, b"accepted");
-    number(f.atoms as u64);
-    number(f.rules as u64);
-    number(f.rulesum as u64);
-    number(f.entries as u64);
-    number(f.entrysum as u64);
-    number(f.symbols as u64);
-    number(f.symbolsum as u64);
-    number(f.text as u64);
-    number(f.textsum as u64);
-    number(f.levels as u64);
+fn print(rt: &impl Print, f: Figures, levels: &[i32]) -> io::Result<()> {
+    rt.write_all(b"accepted")?;
+    number(rt, f.atoms as u64)?;
+    number(rt, f.rules as u64)?;
+    number(rt, f.rulesum as u64)?;
+    number(rt, f.entries as u64)?;
+    number(rt, f.entrysum as u64)?;
+    number(rt, f.symbols as u64)?;
+    number(rt, f.symbolsum as u64)?;
+    number(rt, f.text as u64)?;
+    number(rt, f.textsum as u64)?;
+    number(rt, f.levels as u64)?;
     let mut i: usize = 0;
     while i < f.levels {
-        priority(figures::literal(levels, i));
+        priority(rt, figures::literal(levels, i))?;
         i += 1;
     }
+    Ok(())
 }
 
-fn priority(p: i32) {
+fn priority(rt: &impl Print, p: i32) -> io::Result<()> {
     if is_negative(p) {
-        io::write_all(STDOUT_FILENO, b" -");
-        io::print_decimal(STDOUT_FILENO, magnitude(p) as u64);
+        rt.write_all(b" -")?;
+        rt.print(magnitude(p) as u64)
     } else {
-        number(magnitude(p) as u64);
+        number(rt, magnitude(p) as u64)
     }
 }

@@ -5,7 +5,7 @@ ghost use Rattle.console.specs.Number.{number_of, in_range, all_digits, value_of
 
 use aspif_fields::token::{byte_at, is_digit};
 
-#[derive(Drop)]
+#[derive(Clone, Copy)]
 pub enum Number {
     Value { value: u32 },
     Wrong,

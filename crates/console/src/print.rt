@@ -1,72 +1,74 @@
-// The service's answers, on standard output.
+// The service's answers, in print.
 use asp::figure::{size, wide};
-use libc::STDOUT_FILENO;
 use planner::service::Status;
+use std::io;
 
-pub fn text(s: &[u8]) {
-    io::write_all(STDOUT_FILENO, s);
+pub fn text(rt: &impl Print, s: &[u8]) -> io::Result<()> {
+    rt.write_all(s)
 }
 
-pub fn number(n: u64) {
-    io::print_decimal(STDOUT_FILENO, n);
+pub fn number(rt: &impl Print, n: u64) -> io::Result<()> {
+    rt.print(n)
 }
 
-pub fn line() {
-    text(b"\n");
+pub fn line(rt: &impl Print) -> io::Result<()> {
+    text(rt, b"\n")
 }
 
-pub fn status(s: Status) {
+pub fn status(rt: &impl Print, s: Status) -> io::Result<()> {
     match s {
-        Status::Empty => text(b"empty"),
-        Status::Running => text(b"running"),
-        Status::Optimum => text(b"optimum"),
-        Status::Incoherent => text(b"incoherent"),
-        Status::Full => text(b"full"),
+        Status::Empty => text(rt, b"empty"),
+        Status::Running => text(rt, b"running"),
+        Status::Optimum => text(rt, b"optimum"),
+        Status::Incoherent => text(rt, b"incoherent"),
+        Status::Full => text(rt, b"full"),
     }
 }
 
 // A figure after a space, its sign at its digits.
-fn figure(f: i64) {
-    text(b" ");
+fn figure(rt: &impl Print, f: i64) -> io::Result<()> {
+    text(rt, b" ")?;
     if f < 0 {
-        text(b"-");
+        text(rt, b"-")?;
     }
-    number(size(f));
+    number(rt, size(f))
 }
 
 // The first k of the figures, each after a space; `-` for each where there are none.
-pub fn figures(given: bool, figures: [i64; 8], k: usize) {
+pub fn figures(rt: &impl Print, given: bool, figures: [i64; 8], k: usize) -> io::Result<()> {
     let mut i: usize = 0;
     while i < 8 {
         if k <= i {
-            return;
+            return Ok(());
         }
         if given {
-            figure(figures[i]);
+            figure(rt, figures[i])?;
         } else {
-            text(b" -");
+            text(rt, b" -")?;
         }
         i += 1;
     }
+    Ok(())
 }
 
 // The first k priorities, each after a space.
-pub fn priorities(ps: [i32; 9], k: usize) {
+pub fn priorities(rt: &impl Print, ps: [i32; 9], k: usize) -> io::Result<()> {
     let mut i: usize = 0;
     while i < 9 {
         if k <= i {
-            return;
+            return Ok(());
         }
-        figure(wide(ps[i]));
+        figure(rt, wide(ps[i]))?;
         i += 1;
     }
+    Ok(())
 }
 
 // "A refused load prints only `refused 2 at line 3`, with its own numbers."
-pub fn refused_at(code: u32, at: usize) {
-    text(b"refused ");
-    number(code as u64);
-    text(b" at line ");
-    number(at as u64);
-    line();
+pub fn refused_at(rt: &impl Print, code: u32, at: usize) -> io::Result<()> {
+    text(rt, b"refused ")?;
+    number(rt, code as u64)?;
+    text(rt, b" at line ")?;
+    number(rt, at as u64)?;
+    line(rt)
 }

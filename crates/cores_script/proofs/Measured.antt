@@ -1,21 +1,16 @@
 -- What holds in the loop that adds up the weights of the violated, and what the sum is on the level. Assumes nothing.
-use mathlib.Core.Path.{◌≡◌, refl, sym, ap, ap₂, ◌∙◌, subst}
+use mathlib.Core.Path.{◌≡◌, sym, ap, ap₂, ◌∙◌}
 use mathlib.Core.Bool.{Bool, true, false}
-use mathlib.Core.List.{List, [], ◌∷◌}
-use Prim.Native.Nat.{ℕ, zero, suc, ◌+◌, ◌-◌, ◌*◌, ◌≤◌, ◌<◌, zero-le}
+use mathlib.Core.List.{List}
+use Prim.Native.Nat.{ℕ, suc, ◌+◌, ◌*◌, ◌≤◌, ◌<◌, zero-le}
 use native.Mathlib.Nat.{zero-add, add-zero, mul-le-mul_left}
 use native.Mathlib.Numerals.{add-one}
 use native.Mathlib.Omega.{arith}
-use lib.IntN.{ℤ}
-use lib.ListN.{length, get_or, take, drop, drop_of_length-le}
+use lib.ListN.{length, get_or, drop, drop_of_length-le}
 use lib.Seq.{drop-cons}
 use Rattle.asp.specs.Sets.{Set, ind}
-use Rattle.cores.specs.declared.level.LevelTables.{LevelTables}
 use Rattle.cores.specs.Sums.{wsum}
-use Rattle.cores.specs.Soft.{violated}
-use Rattle.cores.specs.Identity.{violated_weight}
-use Rattle.cores.specs.Judging.{Judging, judging, violated_at, Known, Answers, FormedJudging}
-use Rattle.cores.specs.Tables.{level_of, SoundTables}
+use Rattle.cores.specs.Judging.{Judging, violated_at, Known, Answers}
 use Rattle.cores.proofs.Sums.{wsum_ext}
 
 pub plus_yes : (n w : ℕ) (b : Bool) → b ≡ true → n + w ≡ n + w * ind b

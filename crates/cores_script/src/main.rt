@@ -4,19 +4,22 @@
 //   3 S N PLACES   records a core at stratum S: prints 1 if full, the lower bound, soft literals, members
 //   4 N ATOMS   a set: prints the remaining weights of what it violates
 //   5 S   prints the next stratum below S, how many are assumed at S, and how many of them are an entry's
-ghost use Rattle.std.specs.Prelude.{◌≡◌, true, ℕ, ◌≤◌, ◌<◌, pos, nat_abs, length, get_or};
+#![tactic(auto)]
+
+ghost use Rattle.std.specs.Prelude.{◌≡◌, true, ℕ, ◌≤◌, ◌<◌, IfOk, pos, nat_abs, length, get_or};
 ghost use Rattle.asp.specs.Program.{All};
 ghost use Rattle.cores.specs.Tables.{SoundTables};
 ghost use Rattle.cores_script.specs.World.{Fine, Done};
 ghost use Rattle.cores_script.specs.Reading.{Ready};
 
 use cores::level::LevelTables;
-use number::{Number, read};
+use number::read;
+use std::io;
 
 mod measure;
 mod number;
 
-#[derive(Drop)]
+#[derive(Clone, Copy)]
 pub struct World {
     pub priorities: [i32; 512],
     pub literals: [i32; 512],
@@ -25,7 +28,7 @@ pub struct World {
     pub tables: LevelTables,
 }
 
-#[derive(Drop)]
+#[derive(Clone, Copy)]
 pub struct Turn {
     pub world: World,
     pub next: usize,
@@ -91,16 +94,16 @@ fn put_entry(w: World, p: usize, sign: usize, a: usize, minus: usize, k: usize) 
     }
 }
 
-fn space() {
-    io::write_all(1, b" ");
+fn space(rt: &impl Print) -> io::Result<()> {
+    rt.write_all(b" ")
 }
 
-fn line() {
-    io::write_all(1, b"\n");
+fn line(rt: &impl Print) -> io::Result<()> {
+    rt.write_all(b"\n")
 }
 
-fn print(n: usize) {
-    io::print_decimal(1, n as u64);
+fn print(rt: &impl Print, n: usize) -> io::Result<()> {
+    rt.print(n)
 }
 
 // The level of a priority is opened.
@@ -137,52 +140,52 @@ fn all_below(places: &[u16], n: usize) -> bool
     true
 }
 
-fn print_tables(full: bool, t: LevelTables) {
+fn print_tables(rt: &impl Print, full: bool, t: LevelTables) -> io::Result<()> {
     if full {
-        print(1);
+        print(rt, 1)?;
     } else {
-        print(0);
+        print(rt, 0)?;
     }
-    space();
-    io::print_decimal(1, t.lower);
-    space();
-    print(t.count);
-    line();
+    space(rt)?;
+    rt.print(t.lower)?;
+    space(rt)?;
+    print(rt, t.count)?;
+    line(rt)
 }
 
 // A core is recorded, if there is room.
-fn keep_core(w: World, core: &[u16], s: usize) -> World
+fn keep_core(rt: &impl Print, w: World, core: &[u16], s: usize) -> io::Result<World>
     requires fine { Fine w }
     requires core_len_bound { length core.now ≤ 4096 }
-    ensures { Fine result }
+    ensures { IfOk result (λ u. Fine u) }
 {
     let t = w.tables;
     let lower = t.lower;
     if core.len() == 0 {
-        return w;
+        return Ok(w);
     }
     if 900000000 < lower {
-        return w;
+        return Ok(w);
     }
     if 100000000 < s {
-        return w;
+        return Ok(w);
     }
     if !all_below(core, t.count) {
-        return w;
+        return Ok(w);
     }
     let r = cores::recording::record_core(t, core, s as u32);
     let u = r.tables;
-    print_tables(r.full, u);
+    print_tables(rt, r.full, u)?;
     let priorities = w.priorities;
     let literals = w.literals;
     let weights = w.weights;
-    World {
+    Ok(World {
         priorities,
         literals,
         weights,
         entries: w.entries,
         tables: u,
-    }
+    })
 }
 
 // n numbers, at the front of the places.
@@ -235,33 +238,33 @@ fn read_set(text: &[u8], from: usize, n: usize, model: &mut [u8; 1025]) -> usize
 }
 
 // One statement of the script.
-fn obey(w: World, text: &[u8], from: usize) -> Turn
+fn obey(rt: &impl Print, w: World, text: &[u8], from: usize) -> io::Result<Turn>
     requires fine { Fine w }
     requires from_in_bounds { from ≤ length text.now }
-    ensures { Done result (length text.now) }
+    ensures { IfOk result (λ t. Done t (length text.now)) }
 {
     let op = read(text, from);
     let a = read(text, op.next);
     if op.value == 1 {
-        return entry(w, text, a.value, a.next);
+        return Ok(entry(w, text, a.value, a.next));
     }
     if op.value == 2 {
-        return level(w, a.value, a.next);
+        return level(rt, w, a.value, a.next);
     }
     if op.value == 3 {
-        return core(w, text, a.value, a.next);
+        return core(rt, w, text, a.value, a.next);
     }
     if op.value == 4 {
-        return set(w, text, a.value, a.next);
+        return set(rt, w, text, a.value, a.next);
     }
     if op.value == 5 {
         let t = w.tables;
-        strata(t, least(a.value));
+        strata(rt, t, least(a.value))?;
     }
-    Turn {
+    Ok(Turn {
         world: w,
         next: a.next,
-    }
+    })
 }
 
 fn least(v: usize) -> u32 {
@@ -284,53 +287,53 @@ fn entry(w: World, text: &[u8], p: usize, from: usize) -> Turn
     }
 }
 
-fn level(w: World, p: usize, next: usize) -> Turn
+fn level(rt: &impl Print, w: World, p: usize, next: usize) -> io::Result<Turn>
     requires { Fine w }
-    ensures { Done result next }
+    ensures { IfOk result (λ t. Done t next) }
 {
     if 1000 < p {
-        return Turn { world: w, next };
+        return Ok(Turn { world: w, next });
     }
     let u = open_level(w, p);
     let t = u.tables;
-    print_tables(false, t);
-    Turn { world: u, next }
+    print_tables(rt, false, t)?;
+    Ok(Turn { world: u, next })
 }
 
-fn core(w: World, text: &[u8], s: usize, from: usize) -> Turn
+fn core(rt: &impl Print, w: World, text: &[u8], s: usize, from: usize) -> io::Result<Turn>
     requires fine { Fine w }
     requires from_in_bounds { from ≤ length text.now }
-    ensures { Done result (length text.now) }
+    ensures { IfOk result (λ t. Done t (length text.now)) }
 {
     let n = read(text, from);
     let k = n.value;
     if 4096 < k {
-        return Turn {
+        return Ok(Turn {
             world: w,
             next: n.next,
-        };
+        });
     }
     let mut places = [0u16; 4096];
     let next = read_places(text, n.next, k, &mut places);
-    let u = keep_core(w, &places[..k], s);
-    Turn { world: u, next }
+    let u = keep_core(rt, w, &places[..k], s)?;
+    Ok(Turn { world: u, next })
 }
 
-fn set(w: World, text: &[u8], n: usize, from: usize) -> Turn
+fn set(rt: &impl Print, w: World, text: &[u8], n: usize, from: usize) -> io::Result<Turn>
     requires fine { Fine w }
     requires from_in_bounds { from ≤ length text.now }
-    ensures { Done result (length text.now) }
+    ensures { IfOk result (λ t. Done t (length text.now)) }
 {
     let mut model = [0u8; 1025];
     let next = read_set(text, from, n, &mut model);
     let t = w.tables;
-    io::print_decimal(1, measure::violated_weight(t, &model));
-    line();
-    Turn { world: w, next }
+    rt.print(measure::violated_weight(t, &model))?;
+    line(rt)?;
+    Ok(Turn { world: w, next })
 }
 
 // The next stratum below s, how many are assumed at s, and how many of them are an entry's.
-fn strata(t: LevelTables, s: u32)
+fn strata(rt: &impl Print, t: LevelTables, s: u32) -> io::Result<()>
     requires { SoundTables t }
 {
     let mut literals = [0i32; 4096];
@@ -347,10 +350,16 @@ fn strata(t: LevelTables, s: u32)
         &mut indices,
         &mut weights,
     );
-    print_strata(&weights[..n], &numbers[..n], &literals[..n], s);
+    print_strata(rt, &weights[..n], &numbers[..n], &literals[..n], s)
 }
 
-fn print_strata<'a>(weights: &'a [u32], numbers: &'a [u16], literals: &'a [i32], s: u32)
+fn print_strata<'a>(
+    rt: &impl Print,
+    weights: &'a [u32],
+    numbers: &'a [u16],
+    literals: &'a [i32],
+    s: u32,
+) -> io::Result<()>
     requires weights_len_bound { length weights.now ≤ 4096 }
     requires weights_len { length weights.now ≡ length literals.now }
     requires numbers_len { length numbers.now ≡ length literals.now }
@@ -360,36 +369,40 @@ fn print_strata<'a>(weights: &'a [u32], numbers: &'a [u16], literals: &'a [i32],
     let mut first = [0u16; 4096];
     let mut wishes = [0i32; 4096];
     let m = judging::query::assumed(weights, s, &mut places);
-    io::print_decimal(1, judging::query::next_stratum(weights, s) as u64);
-    space();
-    print(m);
-    space();
+    rt.print(judging::query::next_stratum(weights, s))?;
+    space(rt)?;
+    print(rt, m)?;
+    space(rt)?;
     if 4096 < m {
-        return;
+        return Ok(());
     }
     if !all_below(&places[..m], literals.len()) {
-        return;
+        return Ok(());
     }
-    print(judging::query::entries(&places[..m], numbers, literals, &mut first, &mut wishes));
-    line();
+    print(
+        rt,
+        judging::query::entries(&places[..m], numbers, literals, &mut first, &mut wishes),
+    )?;
+    line(rt)
 }
 
-fn play(text: &[u8]) {
+fn play(rt: &impl Print, text: &[u8]) -> io::Result<()> {
     let mut w = fresh();
     let mut at: usize = 0;
     while at < text.len() {
-        let t = obey(w, text, at);
+        let t = obey(rt, w, text, at)?;
         let next = t.next;
         if next <= at {
-            return;
+            return Ok(());
         }
         w = t.world;
         at = next;
     }
+    Ok(())
 }
 
-fn main() {
-    let mut text = io::large_buffer();
-    let n = io::read_full(0, &mut text);
-    play(&text[..n]);
+fn main(rt: HostRuntime) -> io::Result<()> {
+    let mut text = [0u8; 65536];
+    let n = inputs::fill(&mut rt.stdin(), &mut text)?;
+    play(&rt, &text[..n])
 }

@@ -1,68 +1,70 @@
 // Loads each text that an argument names, tries every set of its atoms, and prints the stable models with their costs.
 // tests/models/make.py writes the texts and the expected output, by clasp.
+#![tactic(auto)]
+
 ghost use Rattle.std.specs.Prelude.{◌≤◌, ◌<◌};
 ghost use Rattle.aspif.specs.Store.{WellFormed};
 
 use aspif::text::{Loading, Stored};
-use libc::STDOUT_FILENO;
 use stability::stable::Stability;
+use std::io;
+use std::rt::Files;
 
-fn main() {
-    let count = os::arg_count();
-    let mut i: usize = 1;
-    while i < count {
+fn main(rt: HostRuntime) -> io::Result<()> {
+    for i in 1..usize::MAX {
         let mut name = [0u8; 64];
-        let k = os::arg(i, &mut name);
-        one_text(&name[0..k]);
-        i += 1;
+        let Some(k) = inputs::argument(&rt, i, &mut name) else {
+            return Ok(());
+        };
+        one_text(&rt, &name[0..k])?;
     }
+    Ok(())
 }
 
-fn one_text(name: &[u8]) {
-    let fd = os::open_read(name);
+fn one_text(rt: &(impl Files + Print), name: &[u8]) -> io::Result<()> {
+    let mut file = inputs::open(rt, name)?;
     let mut text = [0u8; 65537];
-    let k = io::read_full(fd, &mut text);
-    libc::close(fd);
+    let k = inputs::fill(&mut file, &mut text)?;
     let r = aspif::text::load(&text[0..k]);
     let a = r.answer;
     let p = r.stored;
     match a {
         Loading::Accepted => {
-            io::write_all(STDOUT_FILENO, name);
-            models(p);
+            rt.write_all(name)?;
+            models(rt, p)
         }
         Loading::RefusedAt { number: _, line: _ } => {
-            io::write_all(STDOUT_FILENO, name);
-            io::write_all(STDOUT_FILENO, b": refused\n");
+            rt.write_all(name)?;
+            rt.write_all(b": refused\n")
         }
     }
 }
 
 // Every set of the atoms 1 to n, as a number whose bits are its atoms.
-fn models(p: Stored)
+fn models(rt: &impl Print, p: Stored) -> io::Result<()>
     requires { WellFormed p }
 {
     let n = p.counts.atoms;
     if 12 < n {
-        io::write_all(STDOUT_FILENO, b": too many atoms\n");
-        return;
+        return rt.write_all(b": too many atoms\n");
     }
     let sets = powers(n);
     let found = count(p, sets);
-    io::write_all(STDOUT_FILENO, b": ");
-    io::print_decimal(STDOUT_FILENO, found as u64);
-    io::write_all(STDOUT_FILENO, b" of ");
-    io::print_decimal(STDOUT_FILENO, sets as u64);
-    io::write_all(STDOUT_FILENO, b"\n");
+    rt.write_all(b": ")?;
+    rt.print(found)?;
+    rt.write_all(b" of ")?;
+    rt.print(sets)?;
+    rt.write_all(b"\n")?;
     let mut i: usize = 0;
     while i < sets {
         let m = set_of(i);
         if is_model(p, m) {
-            print_set(m);
-            print_costs(p, m);
+            print_set(rt, m)?;
+            print_costs(rt, p, m)?;
         }
         i += 1;
     }
+    Ok(())
 }
 
 // How many of the first `sets` sets are stable models.
@@ -130,34 +132,34 @@ fn is_model(p: Stored, m: [u8; 1025]) -> bool
     }
 }
 
-fn print_set(m: [u8; 1025]) {
-    io::write_all(STDOUT_FILENO, b"{");
+fn print_set(rt: &impl Print, m: [u8; 1025]) -> io::Result<()> {
+    rt.write_all(b"{")?;
     let mut some = false;
     let mut a: usize = 1;
     while a <= 12 {
         if m[a] == 1 {
             if some {
-                io::write_all(STDOUT_FILENO, b",");
+                rt.write_all(b",")?;
             }
-            io::print_decimal(STDOUT_FILENO, a as u64);
+            rt.print(a)?;
             some = true;
         }
         a += 1;
     }
-    io::write_all(STDOUT_FILENO, b"}");
+    rt.write_all(b"}")
 }
 
 // A figure with its sign, after a space.
-fn print_figure(x: i64) {
+fn print_figure(rt: &impl Print, x: i64) -> io::Result<()> {
     if x < 0 {
-        io::write_all(STDOUT_FILENO, b" -");
+        rt.write_all(b" -")?;
     } else {
-        io::write_all(STDOUT_FILENO, b" ");
+        rt.write_all(b" ")?;
     }
-    io::print_decimal(STDOUT_FILENO, asp::figure::size(x));
+    rt.print(asp::figure::size(x))
 }
 
-fn print_costs(p: Stored, m: [u8; 1025])
+fn print_costs(rt: &impl Print, p: Stored, m: [u8; 1025]) -> io::Result<()>
     requires { WellFormed p }
 {
     let k = p.counts.levels;
@@ -174,8 +176,8 @@ fn print_costs(p: Stored, m: [u8; 1025])
     );
     let mut l: usize = 0;
     while l < k {
-        print_figure(figures[l]);
+        print_figure(rt, figures[l])?;
         l += 1;
     }
-    io::write_all(STDOUT_FILENO, b"\n");
+    rt.write_all(b"\n")
 }

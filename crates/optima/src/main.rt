@@ -1,95 +1,98 @@
 // Loads each text that an argument names and optimizes it: a program of at most six atoms advance by advance, with a line for each; then any program by one run, with
 // a line for its end. tests/optima.py writes the texts and the expected output: the ends by clasp, the lines of single advances by a model of document 01's machine.
+#![tactic(auto)]
+
 ghost use Rattle.planner.specs.Sound.{Sound};
 
 use aspif::text::Loading;
 use console::print::{figures, number, text};
 use planner::look::View;
 use planner::service::{Service, Status};
+use std::io;
+use std::rt::Files;
 
-fn main() {
-    let count = os::arg_count();
-    let mut i: usize = 1;
-    while i < count {
+fn main(rt: HostRuntime) -> io::Result<()> {
+    for i in 1..usize::MAX {
         let mut name = [0u8; 64];
-        let k = os::arg(i, &mut name);
-        one_text(&name[0..k]);
-        i += 1;
+        let Some(k) = inputs::argument(&rt, i, &mut name) else {
+            return Ok(());
+        };
+        one_text(&rt, &name[0..k])?;
     }
+    Ok(())
 }
 
-fn one_text(name: &[u8]) {
-    let fd = os::open_read(name);
+fn one_text(rt: &(impl Files + Print), name: &[u8]) -> io::Result<()> {
+    let mut file = inputs::open(rt, name)?;
     let mut bytes = [0u8; 65537];
-    let k = io::read_full(fd, &mut bytes);
-    libc::close(fd);
+    let k = inputs::fill(&mut file, &mut bytes)?;
     let l = planner::load::load(planner::service::fresh(), &bytes[0..k]);
     let a = l.answer;
     let s = l.service;
-    text(name);
+    text(rt, name)?;
     match a {
-        Loading::Accepted => optimize(s),
-        Loading::RefusedAt { number: _, line: _ } => text(b": refused\n"),
+        Loading::Accepted => optimize(rt, &s),
+        Loading::RefusedAt { number: _, line: _ } => text(rt, b": refused\n"),
     }
 }
 
-fn optimize(s: Service)
-    requires { Sound s }
+fn optimize(rt: &impl Print, s: &Service) -> io::Result<()>
+    requires { Sound s.now }
 {
-    let p = s.stored;
-    let c = p.counts;
-    if c.atoms <= 6 {
-        text(b": advance by advance\n");
-        trace(s);
+    if s.stored.counts.atoms <= 6 {
+        text(rt, b": advance by advance\n")?;
+        trace(rt, s)?;
     } else {
-        text(b":\n");
+        text(rt, b":\n")?;
     }
     let t = ran(s);
-    text(b"end");
-    state(t);
+    text(rt, b"end")?;
+    state(rt, &t)?;
+    Ok(())
 }
 
 // Run to its end.
-fn ran(s: Service) -> Service
-    requires { Sound s }
+fn ran(s: &Service) -> Service
+    requires { Sound s.now }
     ensures { Sound result }
 {
-    let r = planner::advance::run(s, 4294967295);
+    let r = planner::advance::run(*s, 4294967295);
     r.service
 }
 
 // One line for each advance until the end, 10,000 at most.
-fn trace(start: Service)
-    requires { Sound start }
+fn trace(rt: &impl Print, start: &Service) -> io::Result<()>
+    requires { Sound start.now }
 {
-    let mut s = start;
+    let mut s = *start;
     let mut i: u32 = 0;
     while i < 10000 {
-        s = advanced(s);
-        if !state(s) {
-            return;
+        s = advanced(&s);
+        if !state(rt, &s)? {
+            return Ok(());
         }
         i += 1;
     }
+    Ok(())
 }
 
-fn advanced(s: Service) -> Service
-    requires { Sound s }
+fn advanced(s: &Service) -> Service
+    requires { Sound s.now }
     ensures { Sound result }
 {
-    let r = planner::advance::advance(s);
+    let r = planner::advance::advance(*s);
     r.service
 }
 
 // A line of the figures; whether the status is running.
-fn state(s: Service) -> bool
-    requires { Sound s }
+fn state(rt: &impl Print, s: &Service) -> io::Result<bool>
+    requires { Sound s.now }
 {
-    let l = planner::look::look(s);
+    let l = planner::look::look(*s);
     let v = l.view;
     let status = v.status;
-    bounds(v);
-    is_running(status)
+    bounds(rt, v)?;
+    Ok(is_running(status))
 }
 
 fn is_running(s: Status) -> bool {
@@ -100,21 +103,21 @@ fn is_running(s: Status) -> bool {
 }
 
 // The number of advances, the status, the bounds, the level in work and its stratum.
-fn bounds(v: View) {
+fn bounds(rt: &impl Print, v: View) -> io::Result<()> {
     let status = v.status;
     let lowers = v.lowers;
     let uppers = v.uppers;
-    text(b" ");
-    number(v.advances);
-    text(b" ");
-    console::print::status(status);
-    text(b" lower");
-    figures(true, lowers, v.levels);
-    text(b" upper");
-    figures(v.bounded, uppers, v.levels);
-    text(b" level ");
-    number(v.level as u64);
-    text(b" stratum ");
-    number(v.stratum as u64);
-    text(b"\n");
+    text(rt, b" ")?;
+    number(rt, v.advances)?;
+    text(rt, b" ")?;
+    console::print::status(rt, status)?;
+    text(rt, b" lower")?;
+    figures(rt, true, lowers, v.levels)?;
+    text(rt, b" upper")?;
+    figures(rt, v.bounded, uppers, v.levels)?;
+    text(rt, b" level ")?;
+    number(rt, v.level as u64)?;
+    text(rt, b" stratum ")?;
+    number(rt, v.stratum as u64)?;
+    text(rt, b"\n")
 }

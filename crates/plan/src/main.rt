@@ -1,5 +1,7 @@
 // The program `plan`: a plan for the hatchery whose program stands in `plan.aspif`, within 1,000,000 advances. An argument names another file, a second one another
 // number of advances.
+#![tactic(auto)]
+
 ghost use Rattle.planner.specs.Sound.{Sound};
 
 use aspif::text::Loading;
@@ -7,135 +9,165 @@ use console::number::Number;
 use planner::look::View;
 use planner::service::Service;
 use planner::symbol::Showing;
+use std::io;
+use std::io::{Cursor, Read, Write};
+use std::rt::{Env, Files};
 
-fn main() {
-    match budget() {
-        Number::Value { value } => plan(value),
-        Number::Wrong => {
-            io::write_all(
-                libc::STDERR_FILENO,
-                b"plan: the second argument is not a number of advances from 0 to 4294967295\n",
-            );
-        }
+fn main(rt: HostRuntime) -> io::Result<()> {
+    let err = rt.stderr();
+    match budget(&rt) {
+        Number::Value { value } => plan(&rt, &err, value),
+        Number::Wrong => err.print(
+            "plan: the second argument is not a number of advances from 0 to 4294967295\n",
+        ),
     }
 }
 
 // The number of advances.
-fn budget() -> Number {
-    if os::arg_count() < 3 {
-        return Number::Value { value: 1000000 };
-    }
+fn budget(rt: &impl Env) -> Number {
     let mut word = [0u8; 64];
-    let k = os::arg(2, &mut word);
+    let Some(k) = inputs::argument(rt, 2, &mut word) else {
+        return Number::Value { value: 1000000 };
+    };
     console::number::read(&word[0..k])
 }
 
-fn plan(budget: u32) {
-    if os::arg_count() < 2 {
-        plan_file(b"plan.aspif", budget);
-        return;
-    }
+fn plan(rt: &(impl Env + Files + Print), err: &impl Print, budget: u32) -> io::Result<()> {
     let mut name = [0u8; 4096];
-    let k = os::arg(1, &mut name);
-    plan_file(&name[0..k], budget);
+    let Some(k) = inputs::argument(rt, 1, &mut name) else {
+        return plan_file(rt, err, b"plan.aspif", budget);
+    };
+    plan_file(rt, err, &name[0..k], budget)
 }
 
 // A file that cannot be read counts as empty.
-fn plan_file(name: &[u8], budget: u32) {
-    let fd = opened(name);
+fn plan_file(
+    rt: &(impl Files + Print),
+    err: &impl Print,
+    name: &[u8],
+    budget: u32,
+) -> io::Result<()> {
     let mut text = [0u8; 65537];
-    let k = io::read_full(fd, &mut text);
-    libc::close(fd);
+    let k = match opened(rt, err, name)? {
+        Some(file) => {
+            let mut file = file;
+            inputs::fill(&mut file, &mut text)?
+        }
+        None => 0,
+    };
     let l = planner::load::load(planner::service::fresh(), &text[0..k]);
     let a = l.answer;
     let s = l.service;
     match a {
-        Loading::Accepted => plan_program(s, budget),
-        Loading::RefusedAt { number, line } => console::print::refused_at(number, line),
+        Loading::Accepted => plan_program(rt, &s, budget),
+        Loading::RefusedAt { number, line } => console::print::refused_at(rt, number, line),
     }
 }
 
 // The file, opened to be read. Where that fails, or it is a folder, standard error tells why.
-fn opened(name: &[u8]) -> i32 {
-    let fd = os::open_read(name);
-    if fd < 0 {
-        unreadable(name);
-        return fd;
-    }
+fn opened<R: Files>(rt: &R, err: &impl Print, name: &[u8]) -> io::Result<Option<R::File>> {
+    let mut file = match inputs::open(rt, name) {
+        Ok(file) => file,
+        Err(error) => {
+            unreadable(err, name, error)?;
+            return Ok(None);
+        }
+    };
     let mut none = [0u8; 1];
-    if libc::read(fd, &mut none[0..0]) < 0 {
-        unreadable(name);
+    if let Err(error) = file.read(&mut none[0..0]) {
+        unreadable(err, name, error)?;
+        return Ok(None);
     }
-    fd
+    Ok(Some(file))
 }
 
-fn unreadable(name: &[u8]) {
-    io::write_all(libc::STDERR_FILENO, b"plan: cannot read ");
-    os::fail(name);
+fn unreadable(err: &impl Print, name: &[u8], error: io::Error) -> io::Result<()> {
+    err.write_all(b"plan: cannot read ")?;
+    err.write_all(name)?;
+    err.write_all(b": ")?;
+    reason(err, error)?;
+    err.write_all(b"\n")
 }
 
-fn plan_program(s: Service, budget: u32)
-    requires { Sound s }
+// The error in the system's words, without its number.
+fn reason(err: &impl Print, error: io::Error) -> io::Result<()> {
+    let mut bytes = [0u8; 320];
+    let mut words = Cursor::new(&mut bytes[..]);
+    write!(words, "{error}")?;
+    let n = words.position();
+    let text = &bytes[..n.min(320) as usize];
+    match std::str::from_utf8(text) {
+        Ok(text) => match text.split_once(" (os error ") {
+            Some((words, _number)) => err.print(words),
+            None => err.print(text),
+        },
+        Err(_) => err.write_all(text),
+    }
+}
+
+fn plan_program(rt: &impl Print, s: &Service, budget: u32) -> io::Result<()>
+    requires { Sound s.now }
 {
-    let r = planner::advance::run(s, budget);
+    let r = planner::advance::run(*s, budget);
     let t = r.service;
     let l = planner::look::look(t);
     let v = l.view;
-    bounds(v);
-    symbols(t);
+    bounds(rt, v)?;
+    symbols(rt, &t)
 }
 
 // The status and the bounds.
-fn bounds(v: View) {
+fn bounds(rt: &impl Print, v: View) -> io::Result<()> {
     let status = v.status;
     let lowers = v.lowers;
     let uppers = v.uppers;
-    console::print::status(status);
-    console::print::text(b"\nlower");
-    console::print::figures(true, lowers, v.levels);
-    console::print::text(b"\nupper");
-    console::print::figures(v.bounded, uppers, v.levels);
-    console::print::line();
+    console::print::status(rt, status)?;
+    console::print::text(rt, b"\nlower")?;
+    console::print::figures(rt, true, lowers, v.levels)?;
+    console::print::text(rt, b"\nupper")?;
+    console::print::figures(rt, v.bounded, uppers, v.levels)?;
+    console::print::line(rt)
 }
 
 // The shown symbols, in text order; there are at most 512.
-fn symbols(s: Service)
-    requires { Sound s }
+fn symbols(rt: &impl Print, s: &Service) -> io::Result<()>
+    requires { Sound s.now }
 {
     let mut i: usize = 0;
     while i < 512 {
-        if !symbol(s, i) {
-            return;
+        if !symbol(rt, s, i)? {
+            return Ok(());
         }
         i += 1;
     }
+    Ok(())
 }
 
 // Prints a symbol if it is shown; whether there may be more.
-fn symbol(s: Service, i: usize) -> bool
-    requires { Sound s }
+fn symbol(rt: &impl Print, s: &Service, i: usize) -> io::Result<bool>
+    requires { Sound s.now }
 {
-    let r = planner::symbol::shown(s, i);
+    let r = planner::symbol::shown(*s, i);
     let a = r.answer;
     match a {
         Showing::Shown => {
-            print_symbol(s, i);
-            true
+            print_symbol(rt, s, i)?;
+            Ok(true)
         }
-        Showing::Hidden => true,
-        Showing::NotLoaded => false,
-        Showing::NoSymbol => false,
-        Showing::NoModel => false,
+        Showing::Hidden => Ok(true),
+        Showing::NotLoaded => Ok(false),
+        Showing::NoSymbol => Ok(false),
+        Showing::NoModel => Ok(false),
     }
 }
 
-fn print_symbol(s: Service, i: usize)
-    requires { Sound s }
+fn print_symbol(rt: &impl Print, s: &Service, i: usize) -> io::Result<()>
+    requires { Sound s.now }
 {
     let mut bytes = [0u8; 64];
-    let r = planner::symbol::name(s, i, &mut bytes);
+    let r = planner::symbol::name(*s, i, &mut bytes);
     let a = r.answer;
-    console::print::text(b"shown ");
-    console::print::text(planner::fill::part(a, &bytes));
-    console::print::line();
+    console::print::text(rt, b"shown ")?;
+    console::print::text(rt, planner::fill::part(a, &bytes))?;
+    console::print::line(rt)
 }

@@ -1,12 +1,12 @@
 -- A test that computes whether stored tables are well formed, and that it is right. Assumes nothing.
-use Rattle.std.proofs.Common.{◌≡◌, ℕ, zero, suc, ◌+◌, ◌*◌, ◌<◌, ◌≤◌, Bool, true, false, not, ◌&&◌, ◌||◌, T, eqb, leb, ◌⊎◌, List, [], ◌∷◌, length, get_or, ℤ, pos, nat_abs, refl, inl, inr, ⊎_elim, arith, leb→le, eqb-true}
+use Rattle.std.proofs.Common.{◌≡◌, ℕ, zero, suc, ◌+◌, ◌*◌, ◌<◌, Bool, true, false, not, ◌&&◌, ◌||◌, T, eqb, leb, List, [], ◌∷◌, length, get_or, ℤ, pos, nat_abs, refl, ⊎_elim, arith, leb→le, eqb-true}
 use mathlib.Core.Bool.{beq}
-use mir.Facts.{and_yes, or_yes, eqb_yes}
+use mir.Facts.{and_yes, or_yes}
 use borrow.Author.Tests.{eqb-false}
 use Rattle.asp.specs.Sets.{In}
-use Rattle.asp.specs.Program.{Literal, Weighed, Body, normal, weighted, Head, constraint, plain, choice, Rule, All, LiteralIn, BodyIn, HeadIn, RuleIn}
+use Rattle.asp.specs.Program.{Weighed, Body, normal, weighted, Head, constraint, plain, choice, Rule, All, LiteralIn, BodyIn, HeadIn, RuleIn}
 use Rattle.asp.specs.Literal.{one_signed}
-use Rattle.asp.specs.Tables.{span, literals_at, is_choice, is_weighted, is_mixed, Row, row_at, rule_at, rules_of, RowIn, Formed}
+use Rattle.asp.specs.Tables.{literals_at, is_choice, is_weighted, is_mixed, Row, row_at, rules_of, RowIn, Formed}
 use Rattle.search.specs.Scan.{rules}
 use Rattle.counting.specs.Counts.{sum_from}
 use Rattle.indexing.specs.Sorting.{Readied}

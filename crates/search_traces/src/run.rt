@@ -1,5 +1,5 @@
 // One query, run to its end.
-ghost use Rattle.std.specs.Prelude.{◌≡◌, ℕ, ◌≤◌, length, pos, slice_index_or, unsigned_abs};
+ghost use Rattle.std.specs.Prelude.{◌≡◌, ℕ, ◌≤◌, IfOk, length, pos, slice_index_or, unsigned_abs};
 ghost use Rattle.asp.specs.Sets.{set_of};
 ghost use Rattle.asp.specs.Tables.{Formed};
 ghost use Rattle.search.specs.Places.{places};
@@ -16,9 +16,10 @@ use indexing::{build, fill, machine};
 use search::soft::Violation;
 use search::step::Tested;
 use search::{soft, trail};
+use std::io;
 
 // What a turn came to: the trail's length, the marks of the rules' numbers, and whether the query has ended: 0 no, 1 without a model, 2 with one.
-#[derive(Drop)]
+#[derive(Clone, Copy)]
 struct Moved {
     len: usize,
     marks: Marks,
@@ -69,20 +70,26 @@ fn blame(blamed: &mut [u8; 8], i: usize)
 }
 
 // The trail after a move, printed; whether the query has ended.
-fn came<'a>(lits: &'a [i32; 1024], marks: &'a [u8; 1024], len: usize) -> u8
+fn came<'a>(
+    rt: &impl Print,
+    lits: &'a [i32; 1024],
+    marks: &'a [u8; 1024],
+    len: usize,
+) -> io::Result<u8>
     requires len_bound { len ≤ 1024 }
     requires by_index { (i : ℕ) → unsigned_abs (slice_index_or lits.now i (pos 0)) ≤ 1024 }
 {
     if len == 0 {
-        say::say(b" ended\n");
-        return 1;
+        say::say(rt, b" ended\n")?;
+        return Ok(1);
     }
-    say::say_trail(lits, marks, len);
-    0
+    say::say_trail(rt, lits, marks, len)?;
+    Ok(0)
 }
 
 // A full trail that is not wanted is cut.
 fn cut<'a>(
+    rt: &impl Print,
     n: usize,
     pool: &'a [i32],
     rows: &'a [u16],
@@ -97,25 +104,26 @@ fn cut<'a>(
     key: &mut [u16; 2048],
     len: usize,
     m: Marks,
-) -> Moved
+) -> io::Result<Moved>
     requires { Running n (rules pool.now rows.now rulecount) (index starts.now lists.now) (index headstarts.now headlists.now) (places lits.old marks.old value.old len) (counters key.old m) }
-    ensures { Running n (rules pool.now rows.now rulecount) (index starts.now lists.now) (index headstarts.now headlists.now) (places lits.new marks.new value.new result.len) (counters key.new result.marks) }
+    ensures { IfOk result (λ moved. Running n (rules pool.now rows.now rulecount) (index starts.now lists.now) (index headstarts.now headlists.now) (places lits.new marks.new value.new moved.len) (counters key.new moved.marks)) }
 {
     let k = machine::back(
         pool, rows, rulecount, starts, lists, headstarts, headlists, lits, marks, value, key, len,
         m,
     );
     let after = k.marks;
-    let ended = came(lits, marks, k.len);
-    Moved {
+    let ended = came(rt, lits, marks, k.len)?;
+    Ok(Moved {
         len: k.len,
         marks: after,
         ended: ended,
-    }
+    })
 }
 
 // A full trail is judged.
 fn full<'a>(
+    rt: &impl Print,
     n: usize,
     pool: &'a [i32],
     rows: &'a [u16],
@@ -135,38 +143,38 @@ fn full<'a>(
     key: &mut [u16; 2048],
     len: usize,
     m: Marks,
-) -> Moved
+) -> io::Result<Moved>
     requires n_bound { n ≤ 1024 }
     requires formed_soft { FormedSoft n (assumed_entries wished.now blamed.old count (set_of tried.now)) }
     requires running { Running n (rules pool.now rows.now rulecount) (index starts.now lists.now) (index headstarts.now headlists.now) (places lits.old marks.old value.old len) (counters key.old m) }
-    ensures running_2 { Running n (rules pool.now rows.now rulecount) (index starts.now lists.now) (index headstarts.now headlists.now) (places lits.new marks.new value.new result.len) (counters key.new result.marks) }
+    ensures running_2 { IfOk result (λ moved. Running n (rules pool.now rows.now rulecount) (index starts.now lists.now) (index headstarts.now headlists.now) (places lits.new marks.new value.new moved.len) (counters key.new moved.marks)) }
     ensures blamed_len_unchanged { length blamed.new ≡ length blamed.old }
 {
     if !listed(models, mask(value, n)) {
-        say::say(b"full unstable");
+        say::say(rt, b"full unstable")?;
         return cut(
-            n, pool, rows, rulecount, starts, lists, headstarts, headlists, lits, marks, value,
+            rt, n, pool, rows, rulecount, starts, lists, headstarts, headlists, lits, marks, value,
             key, len, m,
         );
     }
     match soft::violated(tried, wished, blamed, count, value) {
         Violation::At(i) => {
-            say::say(b"full soft ");
-            say::number(i);
+            say::say(rt, b"full soft ")?;
+            say::number(rt, i)?;
             blame(blamed, i);
             cut(
-                n, pool, rows, rulecount, starts, lists, headstarts, headlists, lits, marks, value,
-                key, len, m,
+                rt, n, pool, rows, rulecount, starts, lists, headstarts, headlists, lits, marks,
+                value, key, len, m,
             )
         }
         Violation::Unviolated => {
-            say::say(b"full wanted");
-            say::say_trail(lits, marks, len);
-            Moved {
+            say::say(rt, b"full wanted")?;
+            say::say_trail(rt, lits, marks, len)?;
+            Ok(Moved {
                 len: len,
                 marks: m,
                 ended: 2,
-            }
+            })
         }
     }
 }
@@ -181,26 +189,28 @@ fn is_full(t: Tested) -> bool {
 }
 
 // What the test says of a trail, printed; a violated soft literal is blamed.
-fn say_tested(t: Tested, blamed: &mut [u8; 8])
+fn say_tested(rt: &impl Print, t: Tested, blamed: &mut [u8; 8]) -> io::Result<()>
     ensures { length blamed.new ≡ length blamed.old }
 {
     match t {
-        Tested::Full => say::say(b"full"),
+        Tested::Full => say::say(rt, b"full"),
         Tested::RuleBroken(r) => {
-            say::say(b"rule ");
-            say::number(r);
+            say::say(rt, b"rule ")?;
+            say::number(rt, r)
         }
         Tested::SoftViolated(i) => {
-            say::say(b"soft ");
-            say::number(i);
+            say::say(rt, b"soft ")?;
+            say::number(rt, i)?;
             blame(blamed, i);
+            Ok(())
         }
-        Tested::Open(_) => say::say(b"open"),
+        Tested::Open(_) => say::say(rt, b"open"),
     }
 }
 
 // One step, printed.
 fn turn<'a>(
+    rt: &impl Print,
     n: usize,
     pool: &'a [i32],
     rows: &'a [u16],
@@ -220,11 +230,11 @@ fn turn<'a>(
     key: &mut [u16; 2048],
     len: usize,
     m: Marks,
-) -> Moved
+) -> io::Result<Moved>
     requires formed { Formed n pool.now rows.now rulecount }
     requires formed_soft { FormedSoft n (assumed_entries wished.now blamed.old count (set_of tried.now)) }
     requires running { Running n (rules pool.now rows.now rulecount) (index starts.now lists.now) (index headstarts.now headlists.now) (places lits.old marks.old value.old len) (counters key.old m) }
-    ensures running_2 { Running n (rules pool.now rows.now rulecount) (index starts.now lists.now) (index headstarts.now headlists.now) (places lits.new marks.new value.new result.len) (counters key.new result.marks) }
+    ensures running_2 { IfOk result (λ moved. Running n (rules pool.now rows.now rulecount) (index starts.now lists.now) (index headstarts.now headlists.now) (places lits.new marks.new value.new moved.len) (counters key.new moved.marks)) }
     ensures blamed_len_unchanged { length blamed.new ≡ length blamed.old }
 {
     let o = machine::step(
@@ -236,21 +246,22 @@ fn turn<'a>(
     let t = o.tested;
     if is_full(t) {
         return full(
-            n, pool, rows, rulecount, starts, lists, headstarts, headlists, tried, wished, count,
-            models, blamed, lits, marks, value, key, k, q,
+            rt, n, pool, rows, rulecount, starts, lists, headstarts, headlists, tried, wished,
+            count, models, blamed, lits, marks, value, key, k, q,
         );
     }
-    say_tested(t, blamed);
-    let ended = came(lits, marks, k);
-    Moved {
+    say_tested(rt, t, blamed)?;
+    let ended = came(rt, lits, marks, k)?;
+    Ok(Moved {
         len: k,
         marks: q,
         ended: ended,
-    }
+    })
 }
 
 // The query, to its end, with the lists lent.
 fn run_lent<'a>(
+    rt: &impl Print,
     n: usize,
     pool: &'a [i32],
     rows: &'a [u16],
@@ -263,7 +274,7 @@ fn run_lent<'a>(
     wished: &'a [i32],
     count: usize,
     models: &'a [u32],
-)
+) -> io::Result<()>
     requires formed { Formed n pool.now rows.now rulecount }
     requires wished { Wished n wished.now count }
     requires indexes { Indexes (rules pool.now rows.now rulecount) (index starts.now lists.now) (index headstarts.now headlists.now) }
@@ -280,6 +291,7 @@ fn run_lent<'a>(
     let mut steps: usize = 0;
     while steps < 1000 {
         let o = turn(
+            rt,
             n,
             pool,
             rows,
@@ -299,7 +311,7 @@ fn run_lent<'a>(
             &mut key,
             len,
             m,
-        );
+        )?;
         len = o.len;
         m = o.marks;
         ended = o.ended;
@@ -309,13 +321,14 @@ fn run_lent<'a>(
         }
     }
     if ended == 1 {
-        say::say_core(&blamed, count);
+        say::say_core(rt, &blamed, count)?;
     }
-    say::say_steps(steps);
+    say::say_steps(rt, steps)
 }
 
 // The query, to its end. No atom is to be tried in first.
 pub fn run<'a>(
+    rt: &impl Print,
     pool: &'a [i32],
     rows: &'a [u16],
     rulecount: usize,
@@ -323,7 +336,7 @@ pub fn run<'a>(
     wished: &'a [i32],
     count: usize,
     models: &'a [u32],
-)
+) -> io::Result<()>
     requires formed { Formed n pool.now rows.now rulecount }
     requires readied { Readied (rules pool.now rows.now rulecount) }
     requires wished { Wished n wished.now count }
@@ -332,6 +345,7 @@ pub fn run<'a>(
     let by_head = build::lists_of(pool, rows, rulecount, true);
     let tried = [0u8; 1025];
     run_lent(
+        rt,
         n,
         pool,
         rows,
@@ -344,5 +358,5 @@ pub fn run<'a>(
         wished,
         count,
         models,
-    );
+    )
 }

@@ -4,7 +4,7 @@ use aspif::text::is_same;
 use console::number::Number;
 use planner::fill::front;
 
-#[derive(Drop)]
+#[derive(Clone, Copy)]
 pub enum Command {
     Nothing,
     Load { size: u32 },

@@ -1,10 +1,11 @@
 // Standard input: lines, and the bytes of a text.
 ghost use Rattle.std.specs.Prelude.{ℕ, ◌≤◌};
 
-use libc::STDIN_FILENO;
+use std::io;
+use std::io::Read;
 
 // A line without its byte 10, at the front of the lent bytes; or one that is longer than they are; or the end of the input.
-#[derive(Drop)]
+#[derive(Clone, Copy)]
 pub enum Line {
     Read { length: usize },
     Long,
@@ -16,13 +17,13 @@ fn wide(b: u8) -> u32 {
 }
 
 // The next byte, or 256 at the end.
-fn next_byte() -> u32 {
+fn next_byte(input: &mut impl Read) -> io::Result<u32> {
     let mut one = [0u8; 1];
-    let n = io::read_full(STDIN_FILENO, &mut one);
+    let n = inputs::fill(input, &mut one)?;
     if n == 0 {
-        return 256;
+        return Ok(256);
     }
-    wide(one[0])
+    Ok(wide(one[0]))
 }
 
 // A byte at place k, where there is room; the place after it, as far as it tells that there was none.
@@ -49,21 +50,21 @@ fn last_line(k: usize, room: usize) -> Line {
     line_of(k, room)
 }
 
-pub fn read_line(bytes: &mut [u8]) -> Line {
+pub fn read_line(input: &mut impl Read, bytes: &mut [u8]) -> io::Result<Line> {
     let mut k: usize = 0;
     let mut left: u64 = 18446744073709551615;
     while 0 < left {
-        let b = next_byte();
+        let b = next_byte(input)?;
         if b == 256 {
-            return last_line(k, bytes.len());
+            return Ok(last_line(k, bytes.len()));
         }
         if b == 10 {
-            return line_of(k, bytes.len());
+            return Ok(line_of(k, bytes.len()));
         }
         k = put(bytes, k, b);
         left -= 1;
     }
-    Line::End
+    Ok(Line::End)
 }
 
 // The bytes after place n.
@@ -75,15 +76,16 @@ pub fn after<'a>(bytes: &'a [u8], n: usize) -> &'a [u8] {
 }
 
 // So many bytes are read and passed over.
-pub fn skip(n: u32) {
+pub fn skip(input: &mut impl Read, n: u32) -> io::Result<()> {
     let mut left = n;
     while 0 < left {
         let m = at_most(left, 4096);
-        if skip_some(m) < m {
-            return;
+        if skip_some(input, m)? < m {
+            return Ok(());
         }
         left -= m;
     }
+    Ok(())
 }
 
 pub fn at_most(n: u32, most: u32) -> u32
@@ -93,16 +95,17 @@ pub fn at_most(n: u32, most: u32) -> u32
 }
 
 // How many of n bytes, 4,096 at most, there were.
-fn skip_some(n: u32) -> u32 {
+fn skip_some(input: &mut impl Read, n: u32) -> io::Result<u32> {
     let mut bytes = [0u8; 4096];
-    read(&mut bytes, n)
+    read(input, &mut bytes, n)
 }
 
 // How many bytes were read, n at most, at the front of the lent bytes.
-pub fn read(bytes: &mut [u8], n: u32) -> u32 {
+pub fn read(input: &mut impl Read, bytes: &mut [u8], n: u32) -> io::Result<u32> {
     let size = n as usize;
     if bytes.len() < size {
-        return 0;
+        return Ok(0);
     }
-    io::read_full(STDIN_FILENO, &mut bytes[0..size]) as u32
+    let k = inputs::fill(input, &mut bytes[0..size])?;
+    Ok(k as u32)
 }
