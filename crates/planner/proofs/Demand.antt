@@ -32,7 +32,7 @@ use Rattle.planner.specs.declared.service.Status.TheVariants as status
 use Rattle.planner.specs.Held.{fresh_service, source_of, PreparedFor, status_of}
 use Rattle.planner.specs.Sound.{Sound}
 use Rattle.planner.specs.Calls.{gives, Loads, outcome, fills, filled, unfilled, given, level_seen, byte_of, model_bytes, model_call, AfterLoad}
-use Rattle.planner.specs.Tally.{load, Does, Tally, tally, begin}
+use Rattle.planner.specs.Tally.{load, Does, Tally, begin}
 use Rattle.planner.specs.Demand.{BestBy, RunIs, Claim, Demand, Demand3}
 use Rattle.planner.proofs.Answers.{at_true}
 use Rattle.planner.proofs.Moving.{at_false}
