@@ -58,20 +58,20 @@ CASES = [
 def lits(text):
     return "".join(f"{ord(c)} ∷ " for c in text) + "[]"
 
-OPEN = "unfolding textOf pieces sameBytes lines steppedLine statement token number digits decimal natural signedToken signed atom literal more opening normalBody weighedField weightedBody bodyField ruleLine pair minimiseLine symbolLine ofKind fits sum insert"
+OPEN = "unfolding text_of pieces same_bytes lines stepped_line statement token number digits decimal natural signed_token signed atom literal more opening normal_body weighed_field weighted_body body_field rule_line pair minimise_line symbol_line of_kind fits sum insert"
 out = ["-- Texts of document 01 and orders 1 and 2 with the answers that they give, each by computation. Written by tests/aspif_samples.py. Assumes nothing.",
-       "use mathlib.Core.Path.{_≡_, refl}",
-       "use mathlib.Core.List.{List, [], _∷_, map}",
+       "use mathlib.Core.Path.{◌≡◌, refl}",
+       "use mathlib.Core.List.{List, [], ◌∷◌, map}",
        "use Prim.Native.Nat.{ℕ}",
        "use lib.IntN.{pos, negsuc}",
-       "use Rattle·asp.specs.Program.{normal, weighted, constraint, plain, choice, Program}",
-       "use Rattle·aspif_fields.specs.Fields.{token, number, digits, decimal, natural, signedToken, signed, atom, literal, opening, weighedField, pair}",
-       "use Rattle·aspif_lines.specs.Text.{textOf, pieces, sameBytes, lines, steppedLine, statement, more, normalBody, weightedBody, bodyField, ruleLine, minimiseLine, symbolLine, ofKind, fits, sum, insert, accepted, refused}",
+       "use Rattle.asp.specs.Program.{normal, weighted, constraint, plain, choice, Program}",
+       "use Rattle.aspif_fields.specs.Fields.{token, number, digits, decimal, natural, signed_token, signed, atom, literal, opening, weighed_field, pair}",
+       "use Rattle.aspif_lines.specs.Text.{text_of, pieces, same_bytes, lines, stepped_line, statement, more, normal_body, weighted_body, body_field, rule_line, minimise_line, symbol_line, of_kind, fits, sum, insert, accepted, refused}",
        "",
        "-- ---- `plan.aspif`", "",
        "abbrev pub plan : List ℕ", "plan = " + lits(PLAN), "",
-       "abbrev pub planProgram : Program",
-       "planProgram =",
+       "abbrev pub plan_program : Program",
+       "plan_program =",
        "    record {",
        "      rules =",
        "          record { head = choice (1 ∷ 2 ∷ []); body = normal [] }",
@@ -82,16 +82,16 @@ out = ["-- Texts of document 01 and orders 1 and 2 with the answers that they gi
        "      entries = record { priority = pos 1; literal = pos 1; weight = pos 2 } ∷ record { priority = pos 1; literal = pos 2; weight = pos 3 } ∷ [];",
        "      symbols = record { name = 97 ∷ []; condition = pos 1 ∷ [] } ∷ record { name = 98 ∷ []; condition = pos 2 ∷ [] } ∷ [];",
        "    }", "",
-       "pub plan-reads : textOf plan ≡ accepted planProgram plan", OPEN, "plan-reads = refl", "",
+       "pub plan_reads : text_of plan ≡ accepted plan_program plan", OPEN, "plan_reads = refl", "",
        "-- with a comment before its first statement it is stored without it", "",
-       "pub plan-remarked : textOf (" + lits(PLAN.replace(H, H + "10 x\n")) + ") ≡ accepted planProgram plan", OPEN, "plan-remarked = refl", "",
+       "pub plan_remarked : text_of (" + lits(PLAN.replace(H, H + "10 x\n")) + ") ≡ accepted plan_program plan", OPEN, "plan_remarked = refl", "",
        "-- ---- priorities, highest first, each once", "",
-       "pub levels-sorted : textOf (" + lits(H + "2 -3 0\n2 7 0\n2 0 0\n2 7 0\n0\n") + ") ≡ accepted (record { rules = []; priorities = pos 7 ∷ pos 0 ∷ negsuc 2 ∷ []; entries = []; symbols = [] }) (" + lits(H + "2 -3 0\n2 7 0\n2 0 0\n2 7 0\n0\n") + ")", OPEN, "levels-sorted = refl", "",
+       "pub levels_sorted : text_of (" + lits(H + "2 -3 0\n2 7 0\n2 0 0\n2 7 0\n0\n") + ") ≡ accepted (record { rules = []; priorities = pos 7 ∷ pos 0 ∷ negsuc 2 ∷ []; entries = []; symbols = [] }) (" + lits(H + "2 -3 0\n2 7 0\n2 0 0\n2 7 0\n0\n") + ")", OPEN, "levels_sorted = refl", "",
        "-- ---- order 1: weights below zero, which write-out gives back", "",
-       "pub rewards-read : textOf (" + lits(REWARDS) + ") ≡ accepted (record { rules = []; priorities = pos 0 ∷ []; entries = " + REWARD_ENTRIES + "; symbols = [] }) (" + lits(REWARDS) + ")", OPEN, "rewards-read = refl", "",
+       "pub rewards_read : text_of (" + lits(REWARDS) + ") ≡ accepted (record { rules = []; priorities = pos 0 ∷ []; entries = " + REWARD_ENTRIES + "; symbols = [] }) (" + lits(REWARDS) + ")", OPEN, "rewards_read = refl", "",
        "-- ---- order 2: weighted bodies, which write-out gives back", "",
-       "pub weighted-reads : textOf (" + lits(WEIGHTED) + ") ≡ accepted (record { rules = record { head = choice (1 ∷ 2 ∷ 3 ∷ []); body = normal [] } ∷ record { head = constraint; body = weighted 5 (" + weighed([("pos 1", 2), ("pos 2", 3), ("pos 3", 4)]) + ") } ∷ []; priorities = pos 0 ∷ []; entries = " + "".join(f"record {{ priority = pos 0; literal = negsuc {a - 1}; weight = pos {a + 1} }} ∷ " for a in (1, 2, 3)) + "[]; symbols = [] }) (" + lits(WEIGHTED) + ")", OPEN, "weighted-reads = refl", "",
-       "pub edges-read : textOf (" + lits(EDGES) + ") ≡ accepted (record { rules = record { head = plain 1; body = weighted 1000000000 (" + weighed([("pos 2", 1000000), ("negsuc 1", 0), ("pos 2", 1)]) + ") } ∷ record { head = choice []; body = weighted 0 [] } ∷ []; priorities = []; entries = []; symbols = [] }) (" + lits(EDGES) + ")", OPEN, "edges-read = refl", "",
+       "pub weighted_reads : text_of (" + lits(WEIGHTED) + ") ≡ accepted (record { rules = record { head = choice (1 ∷ 2 ∷ 3 ∷ []); body = normal [] } ∷ record { head = constraint; body = weighted 5 (" + weighed([("pos 1", 2), ("pos 2", 3), ("pos 3", 4)]) + ") } ∷ []; priorities = pos 0 ∷ []; entries = " + "".join(f"record {{ priority = pos 0; literal = negsuc {a - 1}; weight = pos {a + 1} }} ∷ " for a in (1, 2, 3)) + "[]; symbols = [] }) (" + lits(WEIGHTED) + ")", OPEN, "weighted_reads = refl", "",
+       "pub edges_read : text_of (" + lits(EDGES) + ") ≡ accepted (record { rules = record { head = plain 1; body = weighted 1000000000 (" + weighed([("pos 2", 1000000), ("negsuc 1", 0), ("pos 2", 1)]) + ") } ∷ record { head = choice []; body = weighted 0 [] } ∷ []; priorities = []; entries = []; symbols = [] }) (" + lits(EDGES) + ")", OPEN, "edges_read = refl", "",
        "-- ---- refusals, as one table", "",
        "pub record Case : Type 0 where", "  pub text : List ℕ", "  pub number : ℕ", "  pub line : ℕ", "",
        "abbrev pub cases : List Case", "cases ="]
@@ -99,6 +99,6 @@ for name, text, (c, n) in CASES:
     out.append(f"    -- {name}")
     out.append(f"    record {{ text = {lits(text)}; number = {c}; line = {n} }} ∷")
 out += ["    []", "",
-        "pub refusals : map (λ (c : Case). textOf (c .text)) cases ≡ map (λ (c : Case). refused (c .number) (c .line)) cases", OPEN, "refusals = refl", ""]
+        "pub refusals : map (λ (c : Case). text_of c.text) cases ≡ map (λ (c : Case). refused c.number c.line) cases", OPEN, "refusals = refl", ""]
 here = os.path.dirname(os.path.abspath(__file__))
 open(os.path.join(os.path.dirname(here), "crates/aspif/proofs/Samples.antt"), "w").write("\n".join(out))
