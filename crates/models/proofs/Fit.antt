@@ -1,9 +1,9 @@
 -- A stored program's tables are well formed as crate `asp` asks. Assumes nothing.
 use mathlib.Core.Path.{◌≡◌, ap, ◌∙◌}
 use mathlib.Core.List.{List, [], ◌∷◌, ◌++◌, map}
-use Prim.Native.Nat.{ℕ, zero, suc, ◌+◌, ◌≤◌, ◌<◌}
+use Prim.Native.Nat.{ℕ, ◌≤◌}
 use native.Mathlib.Omega.{arith}
-use lib.IntN.{ℤ, pos, nat_abs}
+use lib.IntN.{ℤ, pos}
 use lib.ListN.{length, get_or, drop, length-map, length-drop, length-append}
 use Rattle.asp.specs.Program.{Entry, All, LiteralIn}
 use Rattle.asp.specs.Tables.{literals_at}
