@@ -1,5 +1,5 @@
 -- A number that a user writes: decimal, with no leading zero, from 0 to 4,294,967,295. Assumes nothing: these are definitions.
-use Rattle.std.specs.Prelude.{Bool, true, false, ◌&&◌, List, [], ◌∷◌, ℕ, ◌+◌, ◌-◌, ◌*◌, eqb, ltb, length}
+use Rattle.std.specs.Prelude.{Bool, true, ◌&&◌, List, [], ◌∷◌, ℕ, ◌+◌, ◌-◌, ◌*◌, eqb, ltb, length}
 use Rattle.asp.specs.Sets.{pick}
 use Rattle.aspif_fields.specs.Fields.{next, is_digit}
 use Rattle.console.specs.declared.number.Number.{Number}
