@@ -8,6 +8,7 @@ use native.Mathlib.Nat.{mul-le-mul_right}
 use native.Mathlib.Omega.{arith}
 use lib.Dec.{eqb}
 use mir.Facts.{eqb_yes, eqb_no}
+use borrow.Author.Tests.{eqb-true, eqb-false}
 use lib.ListN.{length}
 use Rattle.asp.specs.Sets.{Set, pick}
 use Rattle.asp.specs.Program.{All}
@@ -59,6 +60,11 @@ same? m n = go (eqb m n) refl
     go : (b : Bool) → eqb m n ≡ b → Same m n b
     go true e = same (eqb_yes (rw e tt))
     go false e = other (eqb_no (rw e tt))
+
+-- what holds of either choice holds of the choice
+at_pick : {A : Type 0} (P : A → Type 0) (b : Bool) {x y : A} → (b ≡ true → P x) → (b ≡ false → P y) → P (pick b x y)
+at_pick P true f g = f refl
+at_pick P false f g = g refl
 
 module _ (S : Given) where
   open S use {n, Model, levels}
@@ -114,16 +120,14 @@ module _ (S : Given) where
 
   pub settle_kept : (c : ℕ) (w : Work) → GoodWork S w → (charge w.best w.level ≢ w.tables.lower → 1 ≤ w.stratum) → Paid S w c 0 → Inv S (settle c w)
   unfolding total
-  settle_kept c w g pos h = go (same? (charge w.best w.level) w.tables.lower)
-    where
-      go : {b : Bool} → Same (charge w.best w.level) w.tables.lower b
-          → Inv S (pick b (open_next c (w.level ∷ w.past) (w.tables.lower ∷ w.settled) w.later w.best) (working c w [] []))
-      go (same e) =
-          open_kept c (w.level ∷ w.past) (w.tables.lower ∷ w.settled) w.later w.best
-          (end_more w.past w.settled w.level w.later w.best w.tables.lower
-          (record { place = g.place; base = g.base; floor = g.floor }) e (lower_bounds (problem (Among S w) w.level) w.tables g.good))
-          (paid_done c (weights w.past) w.tables.lower (bulk w.level) w.stratum (power S) h (lower_le w g))
-      go (other k) = record { work = g; positive = pos k; unsettled = k; trail = search.good_start (level_query S w); paid = h }
+  settle_kept c w g pos h =
+      at_pick (Inv S) (eqb _ _)
+      (λ e.
+      open_kept c (w.level ∷ w.past) (w.tables.lower ∷ w.settled) w.later w.best
+      (end_more w.past w.settled w.level w.later w.best w.tables.lower
+      (record { place = g.place; base = g.base; floor = g.floor }) (eqb-true _ _ e) (lower_bounds (problem (Among S w) w.level) w.tables g.good))
+      (paid_done c (weights w.past) w.tables.lower (bulk w.level) w.stratum (power S) h (lower_le w g)))
+      (λ e. record { work = g; positive = pos (eqb-false _ _ e); unsettled = eqb-false _ _ e; trail = search.good_start (level_query S w); paid = h })
 
   -- ---- a query ends without a model
 
