@@ -2,6 +2,7 @@
 // number of advances.
 #![tactic(auto)]
 
+ghost use Rattle.std.specs.Prelude.{◌≡◌, ◌≤◌, IfOk, length};
 ghost use Rattle.planner.specs.Sound.{Sound};
 
 use aspif::text::Loading;
@@ -48,19 +49,24 @@ fn plan_file(
     budget: u32,
 ) -> io::Result<()> {
     let mut text = [0u8; 65537];
-    let k = match opened(rt, err, name)? {
-        Some(file) => {
-            let mut file = file;
-            inputs::fill(&mut file, &mut text)?
-        }
-        None => 0,
-    };
+    let k = read(rt, err, name, &mut text)?;
     let l = planner::load::load(planner::service::fresh(), &text[0..k]);
     let a = l.answer;
     let s = l.service;
     match a {
         Loading::Accepted => plan_program(rt, &s, budget),
         Loading::RefusedAt { number, line } => console::print::refused_at(rt, number, line),
+    }
+}
+
+// How many bytes the file has, which are put at the front of the lent ones.
+fn read(rt: &impl Files, err: &impl Print, name: &[u8], text: &mut [u8]) -> io::Result<usize>
+    ensures count { IfOk result (λ k. k ≤ length text.new) }
+    ensures size { length text.new ≡ length text.old }
+{
+    match opened(rt, err, name)? {
+        Some(mut file) => inputs::fill(&mut file, text),
+        None => Ok(0),
     }
 }
 
