@@ -12,12 +12,27 @@ use planner::service::Service;
 use planner::symbol::Showing;
 use std::io;
 use std::io::{Cursor, Read, Write};
+use std::process::ExitCode;
 use std::rt::{Env, Files};
 
-fn main(rt: HostRuntime) -> io::Result<()> {
-    let err = rt.stderr();
-    match budget(&rt) {
-        Number::Value { value } => plan(&rt, &err, value),
+fn main(rt: HostRuntime) -> io::Result<ExitCode> {
+    ending(answer(&rt, &rt.stderr()))
+}
+
+// Where nobody reads on, the program ends without a word, and with the status that a closed pipe gives.
+fn ending(answered: io::Result<()>) -> io::Result<ExitCode> {
+    match answered {
+        Ok(()) => Ok(ExitCode::SUCCESS),
+        Err(error) => match error.kind() {
+            io::ErrorKind::BrokenPipe => Ok(ExitCode::from(141)),
+            _ => Err(error),
+        },
+    }
+}
+
+fn answer(rt: &(impl Env + Files + Print), err: &impl Print) -> io::Result<()> {
+    match budget(rt) {
+        Number::Value { value } => plan(rt, err, value),
         Number::Wrong => err.print(
             "plan: the second argument is not a number of advances from 0 to 4294967295\n",
         ),

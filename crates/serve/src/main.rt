@@ -12,14 +12,29 @@ use input::Line;
 use planner::service::Service;
 use std::io;
 use std::io::Read;
+use std::process::ExitCode;
 
-fn main(rt: HostRuntime) -> io::Result<()> {
-    let mut input = rt.stdin();
+fn main(rt: HostRuntime) -> io::Result<ExitCode> {
+    ending(attend(&rt, &mut rt.stdin()))
+}
+
+// Where nobody reads on, the program ends without a word, and with the status that a closed pipe gives.
+fn ending(attended: io::Result<()>) -> io::Result<ExitCode> {
+    match attended {
+        Ok(()) => Ok(ExitCode::SUCCESS),
+        Err(error) => match error.kind() {
+            io::ErrorKind::BrokenPipe => Ok(ExitCode::from(141)),
+            _ => Err(error),
+        },
+    }
+}
+
+fn attend(rt: &impl Print, input: &mut impl Read) -> io::Result<()> {
     let mut s = planner::service::fresh();
     let mut left: u64 = 18446744073709551615;
     while 0 < left {
-        let c = next_command(&rt, &mut input)?;
-        obey(&rt, &mut input, &mut s, c)?;
+        let c = next_command(rt, input)?;
+        obey(rt, input, &mut s, c)?;
         if !command::goes_on(c) {
             return Ok(());
         }
