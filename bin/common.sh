@@ -4,7 +4,7 @@
 
 # build NAME: proves and builds target/bin/NAME where it isn't there yet, or where a source is newer than it.
 build() {
-    [ -x "$root/target/bin/$1" ] && [ -z "$(find "$root/crates" -name '*.rt' -newer "$root/target/bin/$1" | head -n 1)" ] && return
+    [ -x "$root/target/bin/$1" ] && [ -z "$(find "$root/crates" -name out -prune -o -name '*.rt' -newer "$root/target/bin/$1" -print | head -n 1)" ] && return
     command -v rt >/dev/null || { echo "$1: not built yet, and the Rattle kit (rt) is missing" >&2; exit 69; }
     echo "$1: proving and building it first, which takes some minutes" >&2
     log=$(mktemp)

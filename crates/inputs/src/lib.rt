@@ -43,3 +43,14 @@ pub fn open<R: Files>(rt: &R, name: &[u8]) -> io::Result<R::File> {
         Err(_) => Err(io::Error::from(io::ErrorKind::InvalidInput)),
     }
 }
+
+// Reads the file of that name into the bytes, and returns how many it put at their front. A file that cannot be opened counts as empty.
+pub fn read<R: Files>(rt: &R, name: &[u8], bytes: &mut [u8]) -> io::Result<usize>
+    ensures count { IfOk result (λ k. k ≤ length bytes.new) }
+    ensures size { length bytes.new ≡ length bytes.old }
+{
+    match open(rt, name) {
+        Ok(mut file) => fill(&mut file, bytes),
+        Err(_) => Ok(0),
+    }
+}

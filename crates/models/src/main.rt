@@ -22,9 +22,8 @@ fn main(rt: HostRuntime) -> io::Result<()> {
 }
 
 fn one_text(rt: &(impl Files + Print), name: &[u8]) -> io::Result<()> {
-    let mut file = inputs::open(rt, name)?;
     let mut text = [0u8; 65537];
-    let k = inputs::fill(&mut file, &mut text)?;
+    let k = inputs::read(rt, name, &mut text)?;
     let r = aspif::text::load(&text[0..k]);
     let a = r.answer;
     let p = r.stored;

@@ -23,9 +23,8 @@ fn main(rt: HostRuntime) -> io::Result<()> {
 }
 
 fn one_text(rt: &(impl Files + Print), name: &[u8]) -> io::Result<()> {
-    let mut file = inputs::open(rt, name)?;
     let mut bytes = [0u8; 65537];
-    let k = inputs::fill(&mut file, &mut bytes)?;
+    let k = inputs::read(rt, name, &mut bytes)?;
     let l = planner::load::load(planner::service::fresh(), &bytes[0..k]);
     let a = l.answer;
     let s = l.service;

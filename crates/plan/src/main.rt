@@ -16,18 +16,7 @@ use std::process::ExitCode;
 use std::rt::{Env, Files};
 
 fn main(rt: HostRuntime) -> io::Result<ExitCode> {
-    ending(answer(&rt, &rt.stderr()))
-}
-
-// Where nobody reads on, the program ends without a word, and with the status that a closed pipe gives.
-fn ending(answered: io::Result<()>) -> io::Result<ExitCode> {
-    match answered {
-        Ok(()) => Ok(ExitCode::SUCCESS),
-        Err(error) => match error.kind() {
-            io::ErrorKind::BrokenPipe => Ok(ExitCode::from(141)),
-            _ => Err(error),
-        },
-    }
+    console::end::ending(answer(&rt, &rt.stderr()))
 }
 
 fn answer(rt: &(impl Env + Files + Print), err: &impl Print) -> io::Result<()> {

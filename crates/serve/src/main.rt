@@ -15,18 +15,7 @@ use std::io::Read;
 use std::process::ExitCode;
 
 fn main(rt: HostRuntime) -> io::Result<ExitCode> {
-    ending(attend(&rt, &mut rt.stdin()))
-}
-
-// Where nobody reads on, the program ends without a word, and with the status that a closed pipe gives.
-fn ending(attended: io::Result<()>) -> io::Result<ExitCode> {
-    match attended {
-        Ok(()) => Ok(ExitCode::SUCCESS),
-        Err(error) => match error.kind() {
-            io::ErrorKind::BrokenPipe => Ok(ExitCode::from(141)),
-            _ => Err(error),
-        },
-    }
+    console::end::ending(attend(&rt, &mut rt.stdin()))
 }
 
 fn attend(rt: &impl Print, input: &mut impl Read) -> io::Result<()> {

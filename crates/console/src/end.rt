@@ -1,0 +1,14 @@
+// How a program ends.
+use std::io;
+use std::process::ExitCode;
+
+// Where nobody reads on, the program ends without a word, and with the status that a closed pipe gives.
+pub fn ending(answered: io::Result<()>) -> io::Result<ExitCode> {
+    match answered {
+        Ok(()) => Ok(ExitCode::SUCCESS),
+        Err(error) => match error.kind() {
+            io::ErrorKind::BrokenPipe => Ok(ExitCode::from(141)),
+            _ => Err(error),
+        },
+    }
+}
