@@ -136,6 +136,7 @@ pub fn read_atom(s: &[u8], at: usize) -> Signed
 }
 
 // A space, and a literal.
+#[tactic(auto, using(crate::proofs::Zero::zero_refused, crate::proofs::Zero::other_read))]
 pub fn read_literal(s: &[u8], at: usize) -> Signed
     ensures { (seen_signed s.now result ≡ literal (drop at s.now)) × Small 1024 result }
 {
