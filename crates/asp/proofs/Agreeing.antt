@@ -1,43 +1,43 @@
--- The loop that compares two sets atom by atom, from n down. Assumes nothing.
-use mathlib.Core.Path.{◌≡◌, refl, sym, ap, ◌∙◌}
-use mathlib.Core.Bool.{Bool, true, false, not, ◌&&◌, beq}
-use Prim.Native.Nat.{ℕ, suc, ◌-◌, ◌≤◌, ◌<◌}
+-- The loop that compares two sets atom by atom. Assumes nothing.
+use mathlib.Core.Path.{◌≡◌, refl, sym, ◌∙◌}
+use mathlib.Core.Bool.{Bool, true, false, ◌&&◌, beq}
+use mathlib.Core.Logic.{◌⊎◌, inl, inr}
+use Prim.Native.Nat.{ℕ, zero, suc, ◌+◌, ◌≤◌, ◌<◌}
+use native.Mathlib.Nat.{eq-or-lt_of_le}
 use native.Mathlib.Omega.{arith}
 use Rattle.asp.specs.Sets.{Set, same}
 
-beq_true : (x y : Bool) → x ≡ true → y ≡ beq x y
-beq_true x true e = rw e
-beq_true x false e = rw e
+-- the atoms from 1 to a, without a, agree
+pub record Alike (M X : Set) (a : ℕ) : Type 0 where
+  pub alike : (k : ℕ) → 1 ≤ k → k < a → beq (M k) (X k) ≡ true
 
-beq_false : (x y : Bool) → x ≡ false → not y ≡ beq x y
-beq_false x true e = rw e
-beq_false x false e = rw e
+pub alike_start : (M X : Set) → Alike M X 1
+alike_start M X = record { alike = λ k h l. absurd (omega arith) }
 
-pub agree_in : {x y b c : Bool} → b ≡ x → b ≡ true → c ≡ y → c ≡ beq x y
-agree_in {x} {y} e q f = f ∙ beq_true x y (sym e ∙ q)
+pub alike_next : {M X : Set} {a : ℕ} → Alike M X a → {b : Bool} → b ≡ beq (M a) (X a) → b ≡ true → Alike M X (a + 1)
+alike_next {M} {X} {a} s e q = record { alike = λ k h l. go k h (split k l) }
+  where
+    go : (k : ℕ) → 1 ≤ k → (k ≡ a) ⊎ (k < a) → beq (M k) (X k) ≡ true
+    go k h (inl r) = rw r (sym e ∙ q)
+    go k h (inr r) = s.alike k h r
 
-pub agree_out : {x y b c : Bool} → b ≡ x → b ≡ false → c ≡ y → not c ≡ beq x y
-agree_out {x} {y} e q f = ap not f ∙ beq_false x y (sym e ∙ q)
+    split : (k : ℕ) → k < a + 1 → (k ≡ a) ⊎ (k < a)
+    split k l = let g : k ≤ a = omega arith in eq-or-lt_of_le g
 
--- the atoms 1 to a decide
-pub record SameLeft (n : ℕ) (M X : Set) (a : ℕ) : Type 0 where
-  pub below : a ≤ n
-  pub rest : same a M X ≡ same n M X
-
-pub same_start : (n : ℕ) (M X : Set) → SameLeft n M X n
-same_start n M X = record { below = omega arith; rest = refl }
-
-step : (a : ℕ) (M X : Set) → 0 < a → same a M X ≡ (beq (M a) (X a) && same (a - 1) M X)
+pub alike_same : (n : ℕ) {M X : Set} {a : ℕ} → Alike M X a → n < a → true ≡ same n M X
 unfolding same
-step a M X h = let q : a ≡ suc (a - 1) = omega arith in ap (λ (z : ℕ). same z M X) q ∙ ap (λ (z : ℕ). beq (M z) (X z) && same (a - 1) M X) (sym q)
+alike_same zero s h = refl
+alike_same (suc n) s h = rw (s.alike (suc n) (omega arith) h) (alike_same n s (omega arith))
 
-module _ {n : ℕ} {M X : Set} {a : ℕ} (s : SameLeft n M X a) where
-  pub same_next : 0 < a → {b : Bool} → b ≡ beq (M a) (X a) → b ≡ true → SameLeft n M X (a - 1)
-  same_next h {b} e q = record { below = omega (arith, s.below); rest = rw (step a M X h, ← e, q) at s.rest }
+pub other_same : (M X : Set) (n : ℕ) {a : ℕ} → 1 ≤ a → a ≤ n → {b : Bool} → b ≡ beq (M a) (X a) → b ≡ false → false ≡ same n M X
+unfolding same
+other_same M X zero h l e q = absurd (omega arith)
+other_same M X (suc n) {a} h l e q = go (eq-or-lt_of_le l) (λ r. other_same M X n h (omega arith) e q)
+  where
+    and_false : (x : Bool) → false ≡ (x && false)
+    and_false true = refl
+    and_false false = refl
 
-  pub same_out : 0 < a → {b : Bool} → b ≡ beq (M a) (X a) → b ≡ false → false ≡ same n M X
-  same_out h e q = rw (step a M X h, ← e, q) at s.rest
-
-  pub same_done : a ≤ 0 → true ≡ same n M X
-  unfolding same
-  same_done h = let q : a ≡ 0 = omega arith in rw q at s.rest
+    go : (a ≡ suc n) ⊎ (a < suc n) → (a < suc n → false ≡ same n M X) → false ≡ (beq (M (suc n)) (X (suc n)) && same n M X)
+    go (inl r) f = rw (← r, ← e, q)
+    go (inr r) f = rw (← f r) (and_false (beq (M (suc n)) (X (suc n))))

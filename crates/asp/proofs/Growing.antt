@@ -1,22 +1,21 @@
 -- Laws of `Grown`: adding an atom, adding nothing, one growth after another; and what a choice and a rule come to. Assumes nothing.
 use mathlib.Core.Path.{◌≡◌, refl, sym, ap, subst, ◌∙◌}
 use mathlib.Core.Bool.{Bool, true, false, not, ◌||◌}
-use mathlib.Core.List.{List, [], ◌∷◌, ◌++◌}
+use mathlib.Core.List.{List, [], ◌∷◌, ◌++◌, map}
 use mathlib.Core.Logic.{◌⊎◌, inl, inr}
-use Prim.Native.Nat.{ℕ, suc, ◌+◌, ◌-◌, ◌≤◌, ◌<◌}
+use Prim.Native.Nat.{ℕ, zero, suc, ◌+◌, ◌≤◌, ◌<◌}
 use native.Mathlib.Decide.{ℕ_discrete}
 use native.Mathlib.Omega.{arith}
 use lib.Dec.{T, eqb→eq}
 use lib.IntN.{ℤ, pos, negsuc, nat_abs}
-use lib.ListN.{length, get_or, set, length-set}
+use lib.ListN.{length, get_or, take, set, length-set}
 use lib.Seq.{get_or-set_same, get_or-set_other}
 use mir.Facts.{yes_eqb}
 use Rattle.asp.specs.Sets.{Set, Sub, In, set_of}
 use Rattle.asp.specs.Program.{All}
-use Rattle.asp.specs.Tables.{span, named, atoms_at}
-use Rattle.asp.specs.Growth.{Grown, ChosenAtom, Chosen}
+use Rattle.asp.specs.Tables.{named}
+use Rattle.asp.specs.Growth.{Grown, ChosenAtom, Chosen, atoms_named}
 use Rattle.asp.proofs.Closure.{sub_refl, sub_trans}
-use Rattle.asp.proofs.Spans.{span_snoc, span_at}
 
 clash : {A : Type 0} → true ≡ false → A
 clash {A} q = let z : ◌≡◌ {A = ℕ} 0 1 = cc in absurd (omega arith)
@@ -114,6 +113,21 @@ pub named_abs : (l : ℤ) → 1 ≤ named l → nat_abs l ≡ named l
 named_abs (pos a) h = refl
 named_abs (negsuc a) h = absurd (omega arith)
 
+-- the atoms that head literals name: that of the literal at a place
+pub named_at : (heads : List ℤ) {i : ℕ} → All (In 1024) (atoms_named heads) → i < length heads → In 1024 (named (get_or heads i (pos 0)))
+named_at [] a l = absurd (omega arith)
+named_at (h ∷ hs) {i = zero} a l = a.0
+named_at (h ∷ hs) {i = suc i} a l = named_at hs {i = i} a.1 (omega arith)
+
+pub named_atom : (heads : List ℤ) {i : ℕ} → All (In 1024) (atoms_named heads) → i < length heads → {a : ℕ} → a ≡ nat_abs (get_or heads i (pos 0)) → In 1024 a × (a ≡ named (get_or heads i (pos 0)))
+named_atom heads {i} h l {a} e =
+    let n = named_at heads h l in
+    let s : a ≡ named (get_or heads i (pos 0)) = e ∙ named_abs (get_or heads i (pos 0)) n.0 in
+    (rw s n, s)
+
+pub named_small : (heads : List ℤ) {i : ℕ} → All (In 1024) (atoms_named heads) → i < length heads → nat_abs (get_or heads i (pos 0)) ≤ 1024
+named_small heads h l = (named_atom heads h l refl).0.1
+
 -- an atom that is in M is added, one that is not is passed over
 pub chosen_in : (M : Set) {xs ys : List ℕ} {a h : ℕ} {b u : Bool} → length xs ≡ 1025 → In 1024 h → a ≡ h → b ≡ M a → b ≡ true → ys ≡ set xs a 1 → u ≡ not (set_of xs a)
     → Grown (ChosenAtom M h) xs ys u
@@ -134,59 +148,47 @@ snoc_all : {A : Type 0} (P : A → Type 0) (xs : List A) (x : A) → All P (xs +
 snoc_all P [] x h = (tt, h.0)
 snoc_all P (y ∷ xs) x h = let r = snoc_all P xs x h.1 in ((h.0, r.0), r.1)
 
-pub record Choosing (M : Set) (pool : List ℤ) (i k end j : ℕ) (xs ys : List ℕ) (new : Bool) : Type 0 where
-  pub start : i ≤ j
-  pub stop : j ≤ end
-  pub whole : end ≡ i + k
-  pub inside : end ≤ length pool
-  pub atoms : All (In 1024) (atoms_at pool i k)
-  pub long : length ys ≡ 1025
-  pub grown : Grown (Chosen M (atoms_at pool i (j - i))) xs ys new
+pub record Choosing (M : Set) (heads : List ℤ) (i : ℕ) (xs ys : List ℕ) (new : Bool) : Type 0 where
+  pub long : length ys ≡ length xs
+  pub grown : Grown (Chosen M (atoms_named (take i heads))) xs ys new
 
-pub choosing_start : (M : Set) {pool : List ℤ} {i k : ℕ} {xs : List ℕ} → i + k ≤ length pool → All (In 1024) (atoms_at pool i k) → length xs ≡ 1025
-    → Choosing M pool i k (i + k) i xs xs false
-unfolding span
-choosing_start M {pool} {i} {k} {xs} h a l = record {
-  start = omega arith;
-  stop = omega arith;
-  whole = refl;
-  inside = h;
-  atoms = a;
-  long = l;
-  grown = let q : i - i ≡ 0 = omega arith in rw q (grown_none (λ X. Unit {0}) xs tt);
-}
+pub choosing_start : (M : Set) (heads : List ℤ) (xs : List ℕ) → Choosing M heads 0 xs xs false
+choosing_start M heads xs = record { long = refl; grown = grown_none (λ X. Unit {0}) xs tt }
 
-module _ {M : Set} {pool : List ℤ} {i k end j : ℕ} {xs ys : List ℕ} {new : Bool} (c : Choosing M pool i k end j xs ys new) where
-  pub choosing_place : j < end → j < length pool
-  choosing_place h = omega (arith, c.inside)
+take_more : {A : Type 0} (xs : List A) (i : ℕ) (d : A) → i < length xs → take (i + 1) xs ≡ take i xs ++ (get_or xs i d ∷ [])
+take_more [] i d h = absurd (omega arith)
+take_more (x ∷ xs) zero d h = refl
+take_more {A} (x ∷ xs) (suc i) d h = let e : suc i + 1 ≡ suc (i + 1) = omega arith in rw e (ap (λ (l : List A). x ∷ l) (take_more xs i d (omega arith)))
 
-  pub choosing_atom : j < end → In 1024 (named (get_or pool j (pos 0)))
-  choosing_atom h = span_at (λ (p : ℕ). named (get_or pool p (pos 0))) (In 1024) i k c.atoms j c.start (omega (arith, c.whole))
+map_snoc : {A B : Type 0} (f : A → B) (xs : List A) (x : A) → map f (xs ++ (x ∷ [])) ≡ map f xs ++ (f x ∷ [])
+map_snoc f [] x = refl
+map_snoc {B = B} f (y ∷ xs) x = ap (λ (l : List B). f y ∷ l) (map_snoc f xs x)
 
-  pub choosing_long : length ys ≡ 1025
-  choosing_long = c.long
+take_all : {A : Type 0} (xs : List A) (i : ℕ) → length xs ≤ i → take i xs ≡ xs
+take_all [] zero h = refl
+take_all [] (suc i) h = refl
+take_all (x ∷ xs) zero h = absurd (omega arith)
+take_all {A} (x ∷ xs) (suc i) h = ap (λ (l : List A). x ∷ l) (take_all xs i (omega arith))
 
-  pub choosing_next : j < end → {zs : List ℕ} {one b : Bool} → Grown (ChosenAtom M (named (get_or pool j (pos 0)))) ys zs one → b ≡ (new || one)
-      → Choosing M pool i k end (j + 1) xs zs b
+module _ {M : Set} {heads : List ℤ} {i : ℕ} {xs ys : List ℕ} {new : Bool} (c : Choosing M heads i xs ys new) where
+  pub choosing_next : i < length heads → {zs : List ℕ} {one b : Bool} → Grown (ChosenAtom M (named (get_or heads i (pos 0)))) ys zs one → b ≡ (new || one) → Choosing M heads (i + 1) xs zs b
   choosing_next h {zs} {one} {b} g e = record {
-    start = omega (arith, c.start);
-    stop = omega arith;
-    whole = c.whole;
-    inside = c.inside;
-    atoms = c.atoms;
     long = g.long ∙ c.long;
     grown =
-        grown_join (Chosen M (atoms_at pool i (j - i))) (ChosenAtom M (named (get_or pool j (pos 0)))) (Chosen M (atoms_at pool i (j + 1 - i)))
-        (λ X w. snoc_all (λ a. ChosenAtom M a X) (atoms_at pool i (j - i)) (named (get_or pool j (pos 0))) (rw last at w))
-        (λ X w v. rw last (all_snoc (λ a. ChosenAtom M a X) (atoms_at pool i (j - i)) (named (get_or pool j (pos 0))) w v))
+        grown_join (Chosen M before) (ChosenAtom M here) (Chosen M (atoms_named (take (i + 1) heads)))
+        (λ X w. snoc_all (λ a. ChosenAtom M a X) before here (rw last at w))
+        (λ X w v. rw last (all_snoc (λ a. ChosenAtom M a X) before here w v))
         c.grown g e;
   }
     where
-      last : atoms_at pool i (j + 1 - i) ≡ atoms_at pool i (j - i) ++ (named (get_or pool j (pos 0)) ∷ [])
-      last =
-          let q : j + 1 - i ≡ suc (j - i) = omega (arith, c.start) in
-          let p : i + (j - i) ≡ j = omega (arith, c.start) in
-          rw (q, span_snoc (λ (z : ℕ). named (get_or pool z (pos 0))) i (j - i), p)
+      here : ℕ
+      here = named (get_or heads i (pos 0))
 
-  pub choosing_done : end ≤ j → Grown (Chosen M (atoms_at pool i k)) xs ys new
-  choosing_done h = let q : j - i ≡ k = omega (arith, c.start, c.stop, c.whole) in rw (← q) c.grown
+      before : List ℕ
+      before = atoms_named (take i heads)
+
+      last : atoms_named (take (i + 1) heads) ≡ before ++ (here ∷ [])
+      last = rw (take_more heads i (pos 0) h, map_snoc named (take i heads) (get_or heads i (pos 0)))
+
+  pub choosing_done : length heads ≤ i → Grown (Chosen M (atoms_named heads)) xs ys new
+  choosing_done h = rw (take_all heads i h) at c.grown

@@ -12,7 +12,8 @@ use lib.Signed.{lt_z}
 use borrow.Author.Tests.{ltb-true, ltb-false, eq-eqb, eqb-true}
 use Rattle.asp.specs.Sets.{Set, pick}
 use Rattle.asp.specs.Literal.{same_ℤ, is_negative}
-use Rattle.asp.specs.Program.{Literal, Entry, All}
+use Rattle.asp.specs.Program.{Literal, All}
+use Rattle.asp.specs.declared.entries.Entry.{Entry}
 use Rattle.asp.specs.Stable.{holds}
 use Rattle.asp.specs.Cost.{level, total, total_ℤ, weight, cost, negative_part, start, cheaper, NoDearer}
 use Rattle.asp.specs.Penalty.{paid_literal, penalty, penalties, penalty_charge, charge, bulk, above, rise}

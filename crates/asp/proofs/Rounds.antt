@@ -15,7 +15,8 @@ use Rattle.asp.specs.Sets.{Set, Sub, In, set_of}
 use Rattle.asp.specs.Program.{Rule}
 use Rattle.asp.specs.Stable.{rule_adds, adds, constraint_fails, any_violated, Closed, closure}
 use Rattle.asp.specs.Tables.{span, row_at, rule_at, rules_of, Formed}
-use Rattle.asp.specs.Growth.{Grown, KeptBy, RuleFormed, RulesFormed}
+use Rattle.asp.specs.Growth.{Grown, KeptBy, RowFormed, RulesFormed}
+use Rattle.asp.specs.declared.rules.Row.{Row}
 use Rattle.asp.proofs.Closure.{upto_sub, size, size_le, size_more, size_mono, bit}
 use Rattle.asp.proofs.Stability.{yes_or_left, yes_or_right, closure_closed, closure_least, closure_only}
 use Rattle.asp.proofs.Spans.{span_more, span_none}
@@ -23,7 +24,7 @@ use Rattle.asp.proofs.Growing.{grown_none, grown_join}
 
 -- ---- violated constraints
 
-module _ (M : Set) (pool : List ℤ) (rows : List ℕ) where
+module _ (M : Set) (pool : List ℤ) (rows : List Row) where
   abbrev at : ℕ → Rule
   at r = rule_at pool (row_at rows r)
 
@@ -34,7 +35,7 @@ module _ (M : Set) (pool : List ℤ) (rows : List ℕ) where
   pub unviolated_start : (count : ℕ) → Unviolated count 0
   unviolated_start count = record { rest = rw sub-zero }
 
-module _ {M : Set} {pool : List ℤ} {rows : List ℕ} {count r : ℕ} (u : Unviolated M pool rows count r) where
+module _ {M : Set} {pool : List ℤ} {rows : List Row} {count r : ℕ} (u : Unviolated M pool rows count r) where
   pub unviolated_next : r < count → {b : Bool} → b ≡ constraint_fails M (rule_at pool (row_at rows r)) → b ≡ false → Unviolated M pool rows count (r + 1)
   unfolding any_violated
   unviolated_next h e q = record { rest = rw (span_more (at M pool rows) r count h, ← e, q) at u.rest }
@@ -47,21 +48,21 @@ module _ {M : Set} {pool : List ℤ} {rows : List ℕ} {count r : ℕ} (u : Unvi
   unfolding any_violated
   unviolated_done h = rw (span_none (at M pool rows) r count h) at u.rest
 
-pub rule_formed : {pool : List ℤ} {rows : List ℕ} {count : ℕ} → RulesFormed pool rows count → (r : ℕ) → r < count → RuleFormed pool rows r
+pub rule_formed : {pool : List ℤ} {rows : List Row} {count : ℕ} → RulesFormed pool rows count → (r : ℕ) → r < count → RowFormed pool (row_at rows r)
 rule_formed w r h = w.each r h
 
 -- ---- one round
 
 -- kept by each rule below r
-abbrev pub KeptBelow : Set → List ℤ → List ℕ → ℕ → Set → Type 0
+abbrev pub KeptBelow : Set → List ℤ → List Row → ℕ → Set → Type 0
 KeptBelow M pool rows r X = (s : ℕ) → s < r → KeptBy M (rule_at pool (row_at rows s)) X
 
-pub record Round (M : Set) (pool : List ℤ) (rows : List ℕ) (count r : ℕ) (xs ys : List ℕ) (new : Bool) : Type 0 where
+pub record Round (M : Set) (pool : List ℤ) (rows : List Row) (count r : ℕ) (xs ys : List ℕ) (new : Bool) : Type 0 where
   pub stop : r ≤ count
   pub long : length ys ≡ 1025
   pub grown : Grown (KeptBelow M pool rows r) xs ys new
 
-pub round_start : (M : Set) (pool : List ℤ) (rows : List ℕ) (count : ℕ) {xs : List ℕ} → length xs ≡ 1025 → Round M pool rows count 0 xs xs false
+pub round_start : (M : Set) (pool : List ℤ) (rows : List Row) (count : ℕ) {xs : List ℕ} → length xs ≡ 1025 → Round M pool rows count 0 xs xs false
 round_start M pool rows count {xs} l = record { stop = omega arith; long = l; grown = grown_none (KeptBelow M pool rows 0) xs (λ s h. absurd (omega arith)) }
 
 -- a set kept by each rule is closed, and the other way round
@@ -84,7 +85,7 @@ adds_at M X f s x i (suc k) a b t = go (eq-or-lt_of_le a) (adds_at M X f s x (i 
 closed_to : (M X : Set) (f : ℕ → Rule) (i k : ℕ) → Sub (adds M (span f i k) X) X → (s : ℕ) → i ≤ s → s < i + k → KeptBy M (f s) X
 closed_to M X f i k c s a b = record { sub = λ x t. c.sub x (adds_at M X f s x i k a b t) }
 
-module _ {M : Set} {pool : List ℤ} {rows : List ℕ} {count r : ℕ} {xs ys : List ℕ} {new : Bool} (d : Round M pool rows count r xs ys new) where
+module _ {M : Set} {pool : List ℤ} {rows : List Row} {count r : ℕ} {xs ys : List ℕ} {new : Bool} (d : Round M pool rows count r xs ys new) where
   pub round_long : length ys ≡ 1025
   round_long = d.long
 
@@ -113,7 +114,7 @@ module _ {M : Set} {pool : List ℤ} {rows : List ℕ} {count r : ℕ} {xs ys : 
 
 -- ---- rounds until nothing is new
 
-pub record Closing (n : ℕ) (M : Set) (pool : List ℤ) (rows : List ℕ) (count : ℕ) (xs : List ℕ) (new : Bool) : Type 0 where
+pub record Closing (n : ℕ) (M : Set) (pool : List ℤ) (rows : List Row) (count : ℕ) (xs : List ℕ) (new : Bool) : Type 0 where
   pub long : length xs ≡ 1025
   pub inside : Sub (set_of xs) (closure n (rules_of pool rows count) M)
   pub closed : new ≡ false → Closed (rules_of pool rows count) M (set_of xs)
@@ -130,14 +131,14 @@ nothing_in (suc k) (suc a) t = nothing_in k a t
 clash : {A : Type 0} → true ≡ false → A
 clash {A} q = let z : ◌≡◌ {A = ℕ} 0 1 = cc in absurd (omega arith)
 
-pub closing_start : (n : ℕ) (M : Set) (pool : List ℤ) (rows : List ℕ) (count : ℕ) {xs : List ℕ} → xs ≡ replicate 1025 0 → Closing n M pool rows count xs true
+pub closing_start : (n : ℕ) (M : Set) (pool : List ℤ) (rows : List Row) (count : ℕ) {xs : List ℕ} → xs ≡ replicate 1025 0 → Closing n M pool rows count xs true
 closing_start n M pool rows count e = rw e (record {
   long = length-replicate {A = ℕ} 1025 0;
   inside = record { sub = λ a t. absurd (nothing_in 1025 a t) };
   closed = λ q. clash q;
 })
 
-module _ {n : ℕ} {M : Set} {pool : List ℤ} {rows : List ℕ} {count : ℕ} (w : Formed n pool rows count) where
+module _ {n : ℕ} {M : Set} {pool : List ℤ} {rows : List Row} {count : ℕ} (w : Formed n pool rows count) where
   pub closing_next : {xs ys : List ℕ} {new one : Bool} → Closing n M pool rows count xs new → Grown (Closed (rules_of pool rows count) M) xs ys one → Closing n M pool rows count ys one
   closing_next {xs} {ys} c g = record {
     long = g.long ∙ c.long;
@@ -168,9 +169,9 @@ set_ext X Y f g = fun_ext (λ a. go (X a) (Y a) (f.sub a) (g.sub a))
     go false true f g = absurd (g tt)
     go false false f g = refl
 
-pub closing_long : {n : ℕ} {M : Set} {pool : List ℤ} {rows : List ℕ} {count : ℕ} {xs : List ℕ} {new : Bool} → Closing n M pool rows count xs new → length xs ≡ 1025
+pub closing_long : {n : ℕ} {M : Set} {pool : List ℤ} {rows : List Row} {count : ℕ} {xs : List ℕ} {new : Bool} → Closing n M pool rows count xs new → length xs ≡ 1025
 closing_long c = c.long
 
-pub closing_done : {n : ℕ} {M : Set} {pool : List ℤ} {rows : List ℕ} {count : ℕ} {xs : List ℕ} {new : Bool} → Closing n M pool rows count xs new → new ≡ false
+pub closing_done : {n : ℕ} {M : Set} {pool : List ℤ} {rows : List Row} {count : ℕ} {xs : List ℕ} {new : Bool} → Closing n M pool rows count xs new → new ≡ false
     → set_of xs ≡ closure n (rules_of pool rows count) M
 closing_done {n} {M} {pool} {rows} {count} {xs} c q = set_ext (set_of xs) (closure n (rules_of pool rows count) M) c.inside (closure_least n (rules_of pool rows count) M (set_of xs) (c.closed q))

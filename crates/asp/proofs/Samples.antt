@@ -8,7 +8,8 @@ use native.Mathlib.Omega.{arith}
 use lib.Signed.{lt_z}
 use lib.IntN.{ℤ, pos, negsuc}
 use Rattle.asp.specs.Sets.{Set, same, iterate}
-use Rattle.asp.specs.Program.{Literal, Weighed, normal, weighted, Head, constraint, plain, choice, Rule, Entry, Program, All, RuleIn, atoms, highest}
+use Rattle.asp.specs.Program.{Literal, Weighed, normal, weighted, Head, constraint, plain, choice, Rule, Program, All, RuleIn, atoms, highest}
+use Rattle.asp.specs.declared.entries.Entry.{Entry}
 use Rattle.asp.specs.Stable.{Stable, listed, models, all_hold, counts, member, adds, any_violated, subsets, keep}
 use Rattle.asp.specs.Cost.{level, total, total_ℤ, W, costs, starts, cheaper}
 use Rattle.asp.proofs.Models.{OneOf, models_all, models_only}

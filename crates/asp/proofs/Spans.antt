@@ -5,7 +5,9 @@ use mathlib.Core.Logic.{◌⊎◌, inl, inr}
 use Prim.Native.Nat.{ℕ, zero, suc, ◌+◌, ◌-◌, ◌≤◌, ◌<◌}
 use native.Mathlib.Nat.{eq-or-lt_of_le, add-zero}
 use native.Mathlib.Omega.{arith}
-use lib.ListN.{length}
+use lib.ListN.{length, get_or, take, drop}
+use lib.Seq.{drop-cons}
+use native.Mathlib.Numerals.{add-one}
 use Rattle.asp.specs.Program.{All}
 use Rattle.asp.specs.Tables.{span}
 
@@ -51,3 +53,14 @@ map_span {B = B} g f i (suc k) = ap (λ (l : List B). g (f i) ∷ l) (map_span g
 pub all_map : {A : Type 0} (P Q : A → Type 0) → ((x : A) → P x → Q x) → (xs : List A) → All P xs → All Q xs
 all_map P Q g [] h = tt
 all_map P Q g (x ∷ xs) h = (g x h.0, all_map P Q g xs h.1)
+
+-- k places of a table, from i on, are a part of it
+pub span_part : {A : Type 0} (xs : List A) (d : A) (i k : ℕ) → i + k ≤ length xs → take k (drop i xs) ≡ span (λ (j : ℕ). get_or xs j d) i k
+unfolding span
+span_part xs d i zero h = refl
+span_part {A} xs d i (suc k) h = rw (drop-cons xs i d (omega arith)) (ap (λ (l : List A). get_or xs i d ∷ l) (rw (← add-one) (span_part xs d (i + 1) k (omega arith))))
+
+pub all_at : {A : Type 0} (P : A → Type 0) (d : A) (xs : List A) → All P xs → (i : ℕ) → i < length xs → P (get_or xs i d)
+all_at P d [] h i l = absurd (omega arith)
+all_at P d (x ∷ xs) h zero l = h.0
+all_at P d (x ∷ xs) h (suc i) l = all_at P d xs h.1 i (omega arith)

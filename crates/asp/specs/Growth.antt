@@ -1,9 +1,10 @@
 -- What a pass of the closure does to its table of bytes. Assumes nothing: these are definitions.
-use Rattle.std.specs.Prelude.{◌≡◌, Bool, true, false, List, ℕ, ◌+◌, ◌*◌, ◌≤◌, ◌<◌, T, ℤ, pos, nat_abs, length, get_or}
+use Rattle.std.specs.Prelude.{◌≡◌, Bool, true, false, List, [], ◌∷◌, map, ℕ, ◌≤◌, ◌<◌, T, ℤ, pos, nat_abs, length, get_or}
 use Rattle.asp.specs.Sets.{Set, Sub, set_of}
-use Rattle.asp.specs.Program.{Rule, All, RuleIn}
-use Rattle.asp.specs.Tables.{RowIn, row_at, rule_at}
+use Rattle.asp.specs.Program.{Weighed, Rule, All, RuleIn}
+use Rattle.asp.specs.Tables.{RowIn, named, row_at, rule_at}
 use Rattle.asp.specs.Stable.{rule_adds}
+use Rattle.asp.specs.declared.rules.Row.{Row}
 
 -- From xs to ys, towards the sets that are `Kept` by what adds: nothing is lost; nothing is added that is not in every such set that holds xs;
 -- and where nothing is new, xs is such a set itself.
@@ -25,17 +26,31 @@ Chosen M hs X = All (λ h. ChosenAtom M h X) hs
 abbrev pub KeptBy : Set → Rule → Set → Type 0
 KeptBy M r X = Sub (rule_adds M r X) X
 
--- the k pairs from i on, with their weights `gap` places further on, are in the pool; their atoms are up to 1,024
-pub record PairsFormed (pool : List ℤ) (gap i k : ℕ) : Type 0 where
-  pub few : k < 65536
-  pub inside : i + k + gap ≤ length pool
-  pub small : (j : ℕ) → i ≤ j → j < i + k → nat_abs (get_or pool j (pos 0)) ≤ 1024
+-- the atoms that head literals name
+abbrev pub atoms_named : List ℤ → List ℕ
+atoms_named ls = map named ls
 
--- one rule, or each, is well formed; its atoms are 1 to 1,024
-pub record RuleFormed (pool : List ℤ) (rows : List ℕ) (r : ℕ) : Type 0 where
-  pub long : r * 4 + 4 ≤ length rows
-  pub row : RowIn pool (row_at rows r)
-  pub atoms : RuleIn 1024 (rule_at pool (row_at rows r))
+-- a literal and the weight that stands beside it
+abbrev pub weighed : ℤ → ℤ → Weighed
+weighed l w = record { literal = l; weight = nat_abs w }
 
-pub record RulesFormed (pool : List ℤ) (rows : List ℕ) (count : ℕ) : Type 0 where
-  pub each : (r : ℕ) → r < count → RuleFormed pool rows r
+-- the pairs of a weighted body, by their literals and their weights
+unfoldable pub pairs_of : List ℤ → List ℤ → List Weighed
+pairs_of [] ws = []
+pairs_of (l ∷ ls) [] = []
+pairs_of (l ∷ ls) (w ∷ ws) = weighed l w ∷ pairs_of ls ws
+
+-- so many weights as literals, of atoms up to 1,024
+pub record PairsFormed (literals weights : List ℤ) : Type 0 where
+  pub few : length literals < 65536
+  pub even : length weights ≡ length literals
+  pub small : (j : ℕ) → j < length literals → nat_abs (get_or literals j (pos 0)) ≤ 1024
+
+-- one row is well formed; its atoms are 1 to 1,024
+pub record RowFormed (pool : List ℤ) (row : Row) : Type 0 where
+  pub places : RowIn pool row
+  pub atoms : RuleIn 1024 (rule_at pool row)
+
+-- each of the first `count` is
+pub record RulesFormed (pool : List ℤ) (rows : List Row) (count : ℕ) : Type 0 where
+  pub each : (r : ℕ) → r < count → RowFormed pool (row_at rows r)

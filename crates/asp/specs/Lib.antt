@@ -7,3 +7,4 @@ pub mod Penalty
 pub mod Tables
 pub mod Growth
 pub mod Paying
+pub mod Alone

@@ -3,7 +3,8 @@
 use Rattle.std.specs.Prelude.{List, map, ℕ, ℤ, pos, neg_ℤ, nat_abs, ◌+ℤ◌, ◌-ℤ◌}
 use Rattle.asp.specs.Sets.{Set, pick}
 use Rattle.asp.specs.Literal.{is_negative}
-use Rattle.asp.specs.Program.{Literal, Entry}
+use Rattle.asp.specs.declared.entries.Entry.{Entry}
+use Rattle.asp.specs.Program.{Literal}
 use Rattle.asp.specs.Stable.{holds}
 use Rattle.asp.specs.Cost.{total}
 

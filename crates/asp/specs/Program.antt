@@ -1,6 +1,7 @@
 -- Programs: what the statements of a text say. Document 01, "The text". Assumes nothing: these are definitions.
 use Rattle.std.specs.Prelude.{◌≡◌, List, [], ◌∷◌, ℕ, max, ℤ, nat_abs}
 use Rattle.asp.specs.Sets.{In}
+use Rattle.asp.specs.declared.entries.Entry.{Entry}
 
 -- "A literal is a signed number: a for atom a, minus a for its default negation." Its atom is `nat_abs l`, its complement `neg_ℤ l`.
 abbrev pub Literal : Type 0
@@ -25,12 +26,6 @@ pub data Head : Type 0 where
 pub record Rule : Type 0 where
   pub head : Head
   pub body : Body
-
--- "k pairs of literal and weight: minimise at priority p. Each pair is an entry." Order 1: "Weights now run from -1,000,000 to 1,000,000".
-pub record Entry : Type 0 where
-  pub priority : ℤ
-  pub literal : Literal
-  pub weight : ℤ
 
 -- "symbol s .. shown when all k literals hold"
 pub record Symbol : Type 0 where

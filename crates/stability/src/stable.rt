@@ -1,16 +1,17 @@
 // Whether a set is a stable model, by the closure of the rules.
-ghost use Rattle.std.specs.Prelude.{◌≡◌, Bool, not, ◌||◌, ℕ, ◌+◌, ◌*◌, ◌≤◌, ◌<◌, ℤ, pos, length, get_or, set, replicate};
-ghost use Rattle.std.specs.Bool.{beq};
+ghost use Rattle.std.specs.Prelude.{◌≡◌, not, ◌≤◌, length, pos, set, get_or, replicate};
 ghost use Rattle.asp.specs.Sets.{set_of, same, In};
 ghost use Rattle.asp.specs.Stable.{Closed, constraint_fails, any_violated, closure};
 ghost use Rattle.asp.specs.Program.{All};
-ghost use Rattle.asp.specs.Tables.{atoms_at, named, row_at, rule_at, rules_of, Formed};
-ghost use Rattle.asp.specs.Growth.{Grown, ChosenAtom, Chosen, KeptBy, RuleFormed, RulesFormed};
+ghost use Rattle.asp.specs.Tables.{named, rule_at, rules_of};
+ghost use Rattle.asp.specs.Growth.{Grown, ChosenAtom, Chosen, KeptBy, RowFormed, atoms_named};
 ghost use Rattle.stability.specs.Verdict.{stability_of};
 
-use asp::{literal, table};
+use asp::atoms::AtomSet;
+use asp::literal::atom;
+use asp::rules::{HeadKind, Row, RuleTable};
 
-#[derive(Clone, Copy)]
+#[derive(Clone, Copy, PartialEq, Eq, Debug)]
 pub enum Stability {
     Stable,
     // a constraint's body holds
@@ -21,192 +22,118 @@ pub enum Stability {
 
 // Adds an atom; whether it is new.
 fn add(x: &mut [u8; 1025], a: usize) -> bool
-    requires { (a ≤ 1024) × (length x.old ≡ 1025) }
-    ensures { (x.new ≡ set x.old a 1) × (result ≡ not (set_of x.old a)) }
+    requires { a ≤ 1024 }
+    ensures added { x.new ≡ set x.old a 1 }
+    ensures new { result ≡ not (set_of x.old a) }
 {
-    if x[a] == 1 {
-        return false;
-    }
+    let new = x[a] != 1;
     x[a] = 1;
-    true
+    new
 }
 
-pub fn either(a: bool, b: bool) -> bool
-    ensures { result ≡ (a || b) }
+// Adds an atom, if it is in `m`.
+fn add_chosen(a: usize, m: AtomSet<'_>, x: &mut [u8; 1025]) -> bool
+    requires { In 1024 a }
+    ensures { Grown (ChosenAtom (set_of m.entry.bytes.now) a) x.old x.new result }
 {
-    if a { true } else { b }
+    m.has(a) && add(x, a)
 }
 
-// Adds the atom at a place of the pool, if it is in `m`.
-fn add_chosen<'a>(pool: &'a [i32], i: usize, m: &'a [u8], x: &mut [u8; 1025]) -> bool
-    requires { (i < length pool.now) × In 1024 (named (get_or pool.now i (pos 0))) × (1024 < length m.now) × (length x.old ≡ 1025) }
-    ensures { Grown (ChosenAtom (set_of m.now) (named (get_or pool.now i (pos 0)))) x.old x.new result }
+// Adds those of a choice's atoms that are in `m`.
+fn add_choice(heads: &[i32], m: AtomSet<'_>, x: &mut [u8; 1025]) -> bool
+    requires { All (In 1024) (atoms_named heads.now) }
+    ensures { Grown (Chosen (set_of m.entry.bytes.now) (atoms_named heads.now)) x.old x.new result }
 {
-    let a = table::atom_at(pool, i);
-    let chosen = literal::has(m, a);
-    if chosen {
-        return add(x, a);
-    }
-    false
-}
-
-// Adds those of `k` atoms of the pool, from `i` on, that are in `m`.
-fn add_choice<'a>(pool: &'a [i32], i: usize, k: usize, m: &'a [u8], x: &mut [u8; 1025]) -> bool
-    requires { (i + k ≤ length pool.now) × All (In 1024) (atoms_at pool.now i k) × (1024 < length m.now) × (length x.old ≡ 1025) }
-    ensures { Grown (Chosen (set_of m.now) (atoms_at pool.now i k)) x.old x.new result }
-{
-    let end = i + k;
-    let mut j = i;
     let mut new = false;
-    while j < end {
-        let one = add_chosen(pool, j, m, x);
-        new = either(new, one);
-        j += 1;
+    for l in heads {
+        new |= add_chosen(atom(*l), m, x);
     }
     new
 }
 
 // Adds what a rule adds, its negated atoms and its choice looked up in `m`; whether anything is new.
-pub fn add_rule<'a>(
-    pool: &'a [i32],
-    rows: &'a [u16],
-    r: usize,
-    m: &'a [u8],
-    x: &mut [u8; 1025],
-) -> bool
-    requires { RuleFormed pool.now rows.now r × (1024 < length m.now) × (length x.old ≡ 1025) }
-    ensures { Grown (KeptBy (set_of m.now) (rule_at pool.now (row_at rows.now r))) x.old x.new result }
+pub fn add_rule(row: Row, pool: &[i32], m: AtomSet<'_>, x: &mut [u8; 1025]) -> bool
+    requires { RowFormed pool.now row }
+    ensures { Grown (KeptBy (set_of m.entry.bytes.now) (rule_at pool.now row)) x.old x.new result }
 {
-    if !table::body_holds(pool, rows, r, m, x) {
+    if !row.body_holds(pool, m, AtomSet { bytes: x }) {
         return false;
     }
-    let at = r * 4;
-    let kind = table::number_at(rows, at);
-    let first = table::number_at(rows, at + 1);
-    let heads = table::number_at(rows, at + 2);
-    if table::is_choice(kind) {
-        return add_choice(pool, first, heads, m, x);
+    let heads = row.head_atoms(pool);
+    match row.head {
+        HeadKind::Choice => add_choice(heads, m, x),
+        HeadKind::Plain if row.heads == 0 => false,
+        HeadKind::Plain => add(x, atom(heads[0])),
     }
-    if heads == 0 {
-        return false;
-    }
-    let a = table::atom_at(pool, first);
-    add(x, a)
 }
 
 // One round: adds what each rule adds.
-fn add_round<'a>(
-    pool: &'a [i32],
-    rows: &'a [u16],
-    count: usize,
-    m: &'a [u8],
-    x: &mut [u8; 1025],
-) -> bool
-    requires { RulesFormed pool.now rows.now count × (1024 < length m.now) × (length x.old ≡ 1025) }
-    ensures { Grown (Closed (rules_of pool.now rows.now count) (set_of m.now)) x.old x.new result }
+fn add_round(rules: RuleTable<'_>, m: AtomSet<'_>, x: &mut [u8; 1025]) -> bool
+    ensures { Grown (Closed (rules_of rules.entry.pool.now rules.entry.rows.now (length rules.entry.rows.now)) (set_of m.entry.bytes.now)) x.old x.new result }
 {
-    let mut r: usize = 0;
     let mut new = false;
-    while r < count {
-        let one = add_rule(pool, rows, r, m, x);
-        new = either(new, one);
-        r += 1;
+    for row in rules.rows {
+        new |= add_rule(*row, rules.pool, m, x);
     }
     new
 }
 
-// Rounds until nothing is new: the least closed set, from the empty one. Each round but the last adds one of `n` atoms.
-fn close<'a>(
-    pool: &'a [i32],
-    rows: &'a [u16],
-    count: usize,
-    n: usize,
-    m: &'a [u8],
-    x: &mut [u8; 1025],
-)
-    requires { Formed n pool.now rows.now count × (1024 < length m.now) × (x.old ≡ replicate 1025 0) }
-    ensures { (length x.new ≡ 1025) × (set_of x.new ≡ closure n (rules_of pool.now rows.now count) (set_of m.now)) }
+// Rounds until nothing is new: the least closed set, from the empty one. Each round but the last adds one of the rules' atoms.
+fn close(rules: RuleTable<'_>, m: AtomSet<'_>, x: &mut [u8; 1025])
+    requires { x.old ≡ replicate 1025 0 }
+    ensures { set_of x.new ≡ closure rules.entry.atoms (rules_of rules.entry.pool.now rules.entry.rows.now (length rules.entry.rows.now)) (set_of m.entry.bytes.now) }
 {
     let mut new = true;
     while new {
-        new = add_round(pool, rows, count, m, x);
+        new = add_round(rules, m, x);
     }
 }
 
 // Whether a rule is a constraint whose body holds in `m`.
-fn is_violated<'a>(pool: &'a [i32], rows: &'a [u16], r: usize, m: &'a [u8]) -> bool
-    requires { RuleFormed pool.now rows.now r × (1024 < length m.now) }
-    ensures { result ≡ constraint_fails (set_of m.now) (rule_at pool.now (row_at rows.now r)) }
+fn is_violated(row: Row, pool: &[i32], m: AtomSet<'_>) -> bool
+    requires { RowFormed pool.now row }
+    ensures { result ≡ constraint_fails (set_of m.entry.bytes.now) (rule_at pool.now row) }
 {
-    let at = r * 4;
-    let kind = table::number_at(rows, at);
-    let heads = table::number_at(rows, at + 2);
-    if table::is_choice(kind) {
-        return false;
+    match row.head {
+        HeadKind::Choice => false,
+        HeadKind::Plain => row.heads == 0 && row.body_holds(pool, m, m),
     }
-    if heads == 0 {
-        return table::body_holds(pool, rows, r, m, m);
-    }
-    false
 }
 
-fn any_violated<'a>(pool: &'a [i32], rows: &'a [u16], count: usize, m: &'a [u8]) -> bool
-    requires { RulesFormed pool.now rows.now count × (1024 < length m.now) }
-    ensures { result ≡ any_violated (set_of m.now) (rules_of pool.now rows.now count) }
+fn any_violated(rules: RuleTable<'_>, m: AtomSet<'_>) -> bool
+    ensures { result ≡ any_violated (set_of m.entry.bytes.now) (rules_of rules.entry.pool.now rules.entry.rows.now (length rules.entry.rows.now)) }
 {
-    let mut c: usize = 0;
-    while c < count {
-        if is_violated(pool, rows, c, m) {
+    for row in rules.rows {
+        if is_violated(*row, rules.pool, m) {
             return true;
         }
-        c += 1;
     }
     false
-}
-
-// Whether two sets agree on the atom a.
-fn agree<'a>(m: &'a [u8], x: &'a [u8], a: usize) -> bool
-    requires { (a < length m.now) × (a < length x.now) }
-    ensures { result ≡ beq (set_of m.now a) (set_of x.now a) }
-{
-    if literal::has(m, a) {
-        return literal::has(x, a);
-    }
-    !literal::has(x, a)
 }
 
 // Whether two sets agree on the atoms 1 to n.
-pub fn same<'a>(m: &'a [u8], x: &'a [u8], n: usize) -> bool
-    requires { (n ≤ 1024) × (1024 < length m.now) × (1024 < length x.now) }
-    ensures { result ≡ same n (set_of m.now) (set_of x.now) }
+pub fn same(m: AtomSet<'_>, x: AtomSet<'_>, n: usize) -> bool
+    requires { n ≤ 1024 }
+    ensures { result ≡ same n (set_of m.entry.bytes.now) (set_of x.entry.bytes.now) }
 {
-    let mut a = n;
-    while 0 < a {
-        if !agree(m, x, a) {
+    for a in 1..n + 1 {
+        if m.has(a) != x.has(a) {
             return false;
         }
-        a -= 1;
     }
     true
 }
 
-// Whether the set `m`, of bytes by atom, is a stable model of the rules over the atoms 1 to n.
-pub fn is_stable<'a>(
-    pool: &'a [i32],
-    rows: &'a [u16],
-    count: usize,
-    n: usize,
-    m: &'a [u8],
-) -> Stability
-    requires { Formed n pool.now rows.now count × (1024 < length m.now) }
-    ensures { result ≡ stability_of n (rules_of pool.now rows.now count) (set_of m.now) }
+// Whether the set `m` is a stable model of the rules.
+pub fn is_stable(rules: RuleTable<'_>, m: AtomSet<'_>) -> Stability
+    ensures { result ≡ stability_of rules.entry.atoms (rules_of rules.entry.pool.now rules.entry.rows.now (length rules.entry.rows.now)) (set_of m.entry.bytes.now) }
 {
-    if any_violated(pool, rows, count, m) {
+    if any_violated(rules, m) {
         return Stability::Violated;
     }
     let mut x = [0u8; 1025];
-    close(pool, rows, count, n, m, &mut x);
-    if same(m, &x, n) {
+    close(rules, m, &mut x);
+    if same(m, AtomSet { bytes: &x }, rules.atoms) {
         Stability::Stable
     } else {
         Stability::NotLeast

@@ -1,12 +1,27 @@
 use borrow.Author.Rules.{rules}
-use Rattle.asp.proofs.Growing.{choosing_start, choosing_place, choosing_atom, choosing_long, choosing_next}
+use lib.IntN.{pos}
+use lib.ListN.{get_or}
+use mir.Syntax.{w32}
+use mir.Val.{SFits}
+use mir.Facts.{to_z-of_z}
+use mathlib.Core.Path.{refl}
+use Rattle.asp.proofs.Growing.{choosing_next, named_atom, named_small}
 use Rattle.stability.proofs.stable.add_choice.Goals as goal
 
-pub loop-j-init : goal.loop-j-init
-loop-j-init c = search (choosing_start, rules)
+pub atom-requires : goal.atom-requires
+atom-requires c =
+    let fits : SFits w32 (get_or c.args.heads.now c.loop-l.l-index (pos 0)) = search rules in
+    rw (to_z-of_z fits) (named_small c.args.heads.now c.requires c.loop-l-test.true)
 
-pub add_chosen-one-requires : goal.add_chosen-one-requires
-add_chosen-one-requires c = (search (choosing_place, rules), search (choosing_atom, rules), search rules, search (choosing_long, rules))
+pub add_chosen-new-requires : goal.add_chosen-new-requires
+add_chosen-new-requires c =
+    let fits : SFits w32 (get_or c.args.heads.now c.loop-l.l-index (pos 0)) = search rules in
+    let e = simp to_z-of_z at c.atom.ensures in
+    (named_atom c.args.heads.now c.requires c.loop-l-test.true e).0
 
-pub loop-j-preserved : goal.loop-j-preserved
-loop-j-preserved c = search (choosing_next, rules)
+pub loop-l-preserved : goal.loop-l-preserved
+loop-l-preserved c =
+    let fits : SFits w32 (get_or c.args.heads.now c.loop-l.l-index (pos 0)) = search rules in
+    let e = simp to_z-of_z at c.atom.ensures in
+    let same = (named_atom c.args.heads.now c.requires c.loop-l-test.true e).1 in
+    choosing_next c.loop-l.invariant c.loop-l-test.true (rw same at c.add_chosen-new.ensures) refl

@@ -1,10 +1,7 @@
-use Prim.Native.Nat.{◌-◌}
+use Rattle.std.proofs.Common.{length}
 use Rattle.asp.specs.Sets.{set_of}
 use Rattle.asp.proofs.Rounds.{Round}
 use Rattle.stability.proofs.stable.add_round.Given as goal
 
-abbrev pub invariant-loop-r : goal.invariant-loop-r
-invariant-loop-r l = Round (set_of l.m) l.pool l.rows l.count l.r l.initial.x l.x l.new
-
-abbrev pub decreases-loop-r : goal.decreases-loop-r
-decreases-loop-r l = l.count - l.r
+abbrev pub invariant-loop-row : goal.invariant-loop-row
+invariant-loop-row l = Round (set_of l.m.bytes.now) l.rules.pool.now l.rules.rows.now (length l.rules.rows.now) l.row-index l.initial.x l.x l.new

@@ -1,10 +1,7 @@
-use Prim.Native.Nat.{◌-◌}
+use Rattle.std.proofs.Common.{length}
 use Rattle.asp.specs.Sets.{set_of}
 use Rattle.asp.proofs.Rounds.{Unviolated}
 use Rattle.stability.proofs.stable.any_violated.Given as goal
 
-abbrev pub invariant-loop-c : goal.invariant-loop-c
-invariant-loop-c l = Unviolated (set_of l.m) l.pool l.rows l.count l.c
-
-abbrev pub decreases-loop-c : goal.decreases-loop-c
-decreases-loop-c l = l.count - l.c
+abbrev pub invariant-loop-row : goal.invariant-loop-row
+invariant-loop-row l = Unviolated (set_of l.m.bytes.now) l.rules.pool.now l.rules.rows.now (length l.rules.rows.now) l.row-index
