@@ -7,8 +7,9 @@ use lib.Dec.{ltb}
 use lib.IntN.{ℤ, pos}
 use lib.ListN.{length, get_or, take, drop, replicate}
 use lib.Signed.{lt_z}
+use Rattle.asp.specs.declared.entries.Entry.{Entry}
 use Rattle.asp.specs.Sets.{Set, set_of, pick}
-use Rattle.asp.specs.Program.{Rule, Entry}
+use Rattle.asp.specs.Program.{Rule}
 use Rattle.asp.specs.Literal.{same_ℤ}
 use Rattle.asp.specs.Penalty.{penalties}
 use Rattle.asp.specs.Stable.{is_stable}

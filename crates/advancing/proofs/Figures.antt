@@ -6,8 +6,9 @@ use native.Mathlib.Nat.{zero-add}
 use native.Mathlib.Omega.{arith}
 use lib.IntN.{ℤ, pos, nat_abs}
 use lib.ListN.{length, get_or, take, drop, replicate, length-replicate, length-drop}
+use Rattle.asp.specs.declared.entries.Entry.{Entry}
 use Rattle.asp.specs.Sets.{Set, set_of}
-use Rattle.asp.specs.Program.{Entry, LiteralIn}
+use Rattle.asp.specs.Program.{LiteralIn}
 use Rattle.asp.specs.Cost.{cost, start, level}
 use Rattle.asp.specs.Penalty.{charge, above, rise}
 use Rattle.asp.specs.Tables.{span, literals_at}

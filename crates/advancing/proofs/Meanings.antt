@@ -12,9 +12,10 @@ use lib.ListN.{length, get_or, set, take, length-set, length-map}
 use lib.Signed.{lt_z}
 use lib.Seq.{get_or-set_same, get_or-set_other}
 use borrow.Author.Tests.{lt-ltb, le-ltb}
+use Rattle.asp.specs.declared.entries.Entry.{Entry}
 use Rattle.asp.specs.Sets.{Set, set_of, pick}
 use Rattle.asp.specs.Literal.{same_ℤ}
-use Rattle.asp.specs.Program.{Entry, All, LiteralIn}
+use Rattle.asp.specs.Program.{All, LiteralIn}
 use Rattle.asp.specs.Cost.{cheaper}
 use Rattle.asp.specs.Penalty.{Penalty, penalties, charge, above, rise, penalty}
 use Rattle.asp.specs.Tables.{span, entry_at}

@@ -12,8 +12,9 @@ use lib.IntN.{ℤ, pos}
 use lib.ListN.{length, get_or, take}
 use lib.Signed.{lt_z, ◌<ℤ◌}
 use lib.Seq.{get_or-take}
+use Rattle.asp.specs.declared.entries.Entry.{Entry}
 use Rattle.asp.specs.Sets.{Set, set_of}
-use Rattle.asp.specs.Program.{Entry, All}
+use Rattle.asp.specs.Program.{All}
 use Rattle.asp.specs.Cost.{cost, weight, NoDearer}
 use Rattle.asp.specs.Penalty.{Penalty, charge, bulk, above, rise}
 use Rattle.asp.specs.Tables.{span}

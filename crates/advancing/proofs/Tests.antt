@@ -1,4 +1,5 @@
 -- The verdict on the tables is the test of the machine of `optimum` (`Meaning`): it depends on the tables by what they mean only. Assumes nothing.
+use Rattle.std.specs.Prelude.{Option, Some, None}
 use mathlib.Core.Path.{◌≡◌, refl, sym, ap, ap₂, ◌∙◌, fun_ext}
 use mathlib.Core.Bool.{Bool, true, false, ◌&&◌}
 use mathlib.Core.List.{List, [], ◌∷◌, ◌++◌, map}
@@ -30,8 +31,6 @@ use Rattle.search.specs.Step.{open_or, unbroken, test_by, test_of}
 use Rattle.search.specs.Link.{verdict_of}
 use Rattle.search.specs.declared.scan.Found.{Found}
 use Rattle.search.specs.declared.scan.Found.TheVariants.{Broken, Breaker, Clear}
-use Rattle.search.specs.declared.soft.Violation.{Violation}
-use Rattle.search.specs.declared.soft.Violation.TheVariants.{Unviolated}
 use Rattle.search.specs.declared.step.Tested.{Tested}
 use Rattle.search.specs.declared.step.Tested.TheVariants.{Full}
 use Rattle.search.proofs.Steps.{set_is, length_is}
@@ -71,7 +70,7 @@ module _ {n : ℕ} {t : Places} (d : SoundTrail n t) where
 
 -- ---- the test depends on which soft literals are blamed, however the flags say it
 
-violated_same : (f : Set) (w : List ℤ) (fs gs : List ℕ) (k : ℕ) (v : List ℕ) (a : Violation) (i m : ℕ) → ((j : ℕ) → j < i + m → eqb (get_or fs j 0) 1 ≡ eqb (get_or gs j 0) 1)
+violated_same : (f : Set) (w : List ℤ) (fs gs : List ℕ) (k : ℕ) (v : List ℕ) (a : Option ℕ) (i m : ℕ) → ((j : ℕ) → j < i + m → eqb (get_or fs j 0) 1 ≡ eqb (get_or gs j 0) 1)
     → violated_from (assumed_entries w fs k f) v a i m ≡ violated_from (assumed_entries w gs k f) v a i m
 unfolding violated_from
 violated_same f w fs gs k v a i zero h = refl
@@ -84,12 +83,12 @@ unfolding unbroken
 test_same f g n w fs gs k v len h = go (scan_of g v)
   where
     same : violated_of (assumed_entries w fs k f) v ≡ violated_of (assumed_entries w gs k f) v
-    same = violated_same f w fs gs k v Unviolated 0 k (λ j l. h j (omega arith))
+    same = violated_same f w fs gs k v None 0 k (λ j l. h j (omega arith))
 
     go : (y : Found) → test_by n (assumed_entries w fs k f) v len y ≡ test_by n (assumed_entries w gs k f) v len y
     go (Broken r) = refl
-    go (Breaker l) = ap (λ (x : Violation). pick (leb n len) Full (open_or (branch_of f w k v n (Breaker l)) x)) same
-    go Clear = ap (λ (x : Violation). pick (leb n len) Full (open_or (branch_of f w k v n Clear) x)) same
+    go (Breaker l) = ap (λ (x : Option ℕ). pick (leb n len) Full (open_or (branch_of f w k v n (Breaker l)) x)) same
+    go Clear = ap (λ (x : Option ℕ). pick (leb n len) Full (open_or (branch_of f w k v n Clear) x)) same
 
 map_at : {A : Type 0} (d : A) (f : ℕ → A) (xs : List ℕ) (i : ℕ) → i < length xs → get_or (map f xs) i d ≡ f (get_or xs i 0)
 map_at d f [] i h = absurd (omega arith)

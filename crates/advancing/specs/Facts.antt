@@ -2,8 +2,9 @@
 -- are definitions.
 use Rattle.std.specs.Prelude.{◌≡◌, Bool, true, false, List, map, ℕ, suc, ◌+◌, ◌*◌, ◌^◌, ◌≤◌, ◌<◌, ℤ, pos, ◌<ℤ◌, length, take, get_or}
 use Rattle.std.specs.Int.Signed.{lt_z}
+use Rattle.asp.specs.declared.entries.Entry.{Entry}
 use Rattle.asp.specs.Sets.{Set, set_of}
-use Rattle.asp.specs.Program.{Entry, All}
+use Rattle.asp.specs.Program.{All}
 use Rattle.asp.specs.Stable.{Stable}
 use Rattle.asp.specs.Cost.{cost, weight, total, NoDearer}
 use Rattle.asp.specs.Penalty.{above}

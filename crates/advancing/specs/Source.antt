@@ -1,7 +1,8 @@
 -- The tables of a program that an optimization reads, and what they say. Assumes nothing: these are definitions.
 use Rattle.std.specs.Prelude.{◌≡◌, List, ℕ, ◌≤◌, ℤ, pos, nat_abs, length, get_or}
+use Rattle.asp.specs.declared.entries.Entry.{Entry}
 use Rattle.asp.specs.Sets.{Set, set_of}
-use Rattle.asp.specs.Program.{Rule, Entry, All, LiteralIn}
+use Rattle.asp.specs.Program.{Rule, All, LiteralIn}
 use Rattle.asp.specs.Cost.{level, start}
 use Rattle.asp.specs.Penalty.{Penalty, penalties}
 use Rattle.asp.specs.Tables.{span, rules_of, entries_of, Formed}

@@ -11,6 +11,7 @@ use lib.IntN.{ℤ, pos, negsuc, nat_abs}
 use lib.ListN.{length, get_or, set, replicate, length-set}
 use lib.Seq.{get_or-set_same, get_or-set_other}
 use borrow.Author.Tests.{eq-eqb, ne_eqb, lt-ltb, le-ltb}
+use Rattle.asp.specs.declared.rules.Row.{Row}
 use Rattle.asp.specs.Sets.{Set, In, set_of}
 use Rattle.asp.specs.Literal.{same_ℤ, is_negative}
 use Rattle.asp.specs.Program.{Rule, All}
@@ -121,7 +122,7 @@ module _ {pool : List ℤ} {i k end j : ℕ} {xs ys : List ℕ} (c : Marking poo
 with_none : (X : Set) {xs : List ℕ} → length xs ≡ 1025 → ((a : ℕ) → X a ≡ false) → With X xs xs
 with_none X {xs} l n = record { long = l; each = λ a. rw (n a) (sym (or_false (set_of xs a))) }
 
-module _ (pool : List ℤ) (rows : List ℕ) (r : ℕ) where
+module _ (pool : List ℤ) (rows : List Row) (r : ℕ) where
   pub rule_marked : {k f h b : ℕ} {x y : Bool} → k ≡ get_or rows (r * 4) 0 → x ≡ is_weighted k → x ≡ false → y ≡ is_choice k → y ≡ true → f ≡ get_or rows (r * 4 + 1) 0 → h ≡ get_or rows (r * 4 + 2) 0 → b ≡ get_or rows (r * 4 + 3) 0 → b ≡ 0 → {xs ys : List ℕ}
       → With (listed (atoms_at pool f h)) xs ys → With (freely_chosen_by (rule_at pool (row_at rows r))) xs ys
   unfolding span
@@ -160,7 +161,7 @@ module _ (pool : List ℤ) (rows : List ℕ) (r : ℕ) where
 
 -- ---- the loop over the rules
 
-module _ (pool : List ℤ) (rows : List ℕ) where
+module _ (pool : List ℤ) (rows : List Row) where
   abbrev rule_of : ℕ → Rule
   rule_of r = rule_at pool (row_at rows r)
 

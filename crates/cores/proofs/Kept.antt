@@ -9,9 +9,10 @@ use lib.Dec.{ltb}
 use lib.IntN.{ℤ, pos, nat_abs, neg_ℤ}
 use lib.ListN.{length, get_or, take, replicate, length-map, length-replicate, get_or-replicate}
 use lib.Seq.{sets}
+use Rattle.asp.specs.declared.entries.Entry.{Entry}
 use Rattle.asp.specs.Sets.{pick}
 use Rattle.asp.specs.Literal.{same_ℤ}
-use Rattle.asp.specs.Program.{Entry, All, Distinct}
+use Rattle.asp.specs.Program.{All, Distinct}
 use Rattle.asp.specs.Penalty.{Penalty, penalty, penalties, bulk}
 use Rattle.asp.specs.Cost.{total, level}
 use Rattle.cores.specs.declared.level.LevelTables.{LevelTables}

@@ -15,9 +15,10 @@ use lib.IntN.{ℤ, pos, nat_abs}
 use lib.ListN.{length, get_or, set, drop, length-set, drop_of_length-le}
 use lib.Seq.{drop-cons, sets}
 use borrow.Author.Tests.{le-leb, lt-leb}
+use Rattle.asp.specs.declared.entries.Entry.{Entry}
 use Rattle.asp.specs.Sets.{pick}
 use Rattle.asp.specs.Literal.{same_ℤ}
-use Rattle.asp.specs.Program.{Entry, All}
+use Rattle.asp.specs.Program.{All}
 use Rattle.asp.specs.Cost.{level}
 use Rattle.asp.specs.Penalty.{Penalty, paid_literal, penalties}
 use Rattle.asp.specs.Tables.{span, entry_at, entries_of}

@@ -9,9 +9,10 @@ use borrow.Author.Tests.{ltb-true, ltb-false}
 use lib.Dec.{ltb}
 use lib.IntN.{ℤ, pos}
 use lib.ListN.{length, get_or, length-map}
+use Rattle.asp.specs.declared.entries.Entry.{Entry}
 use Rattle.asp.specs.Sets.{Set, pick, ind}
 use Rattle.asp.specs.Literal.{same_ℤ}
-use Rattle.asp.specs.Program.{Entry, All}
+use Rattle.asp.specs.Program.{All}
 use Rattle.asp.specs.Penalty.{Penalty, charge, bulk, penalty_charge}
 use Rattle.asp.specs.Stable.{holds}
 use Rattle.asp.specs.Cost.{total, level}

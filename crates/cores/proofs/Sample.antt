@@ -8,8 +8,8 @@ use lib.ListN.{length, replicate}
 use native.Mathlib.Omega.{arith}
 use lib.Dec.{eqb, ltb}
 use lib.IntN.{pos}
+use Rattle.asp.specs.declared.entries.Entry.{Entry}
 use Rattle.asp.specs.Sets.{Set}
-use Rattle.asp.specs.Program.{Entry}
 use Rattle.asp.specs.Cost.{total_ℤ, cost, start}
 use Rattle.asp.specs.Penalty.{penalties, charge, above}
 use Rattle.cores.specs.Soft.{entry, derived, violated}

@@ -10,8 +10,9 @@ use lib.IntN.{ℤ, pos, negsuc, neg_ℤ, nat_abs}
 use lib.ListN.{length, get_or, set, length-set}
 use lib.Seq.{get_or-set_same, get_or-set_other, set-set}
 use borrow.Author.Tests.{eqb-true, eqb-false}
+use Rattle.asp.specs.declared.rules.Row.{Row}
 use Rattle.asp.specs.Sets.{pick}
-use Rattle.asp.specs.Tables.{is_choice, is_weighted, Row}
+use Rattle.asp.specs.Tables.{is_choice, is_weighted}
 use Rattle.asp.proofs.Signed.{abs_neg, clash}
 use Rattle.search.specs.Places.{side_of, truth_of, put_of, drop_of, Good}
 use Rattle.search.specs.declared.scan.Rest.{Rest}
@@ -87,7 +88,7 @@ module _ (g : Rules) (o : Index) (ix : Indexed g o) where
   terms v r = sum_from (λ a. term o r a (get_or v a 0)) 0 1025
 
   key_bound : (w v : List ℕ) (r : ℕ) → key_as g o w v r ≤ 4102
-  key_bound w v r = go (is_weighted (row_of g r).a) (is_choice (row_of g r).a)
+  key_bound w v r = go (is_weighted (row_of g r).body) (is_choice (row_of g r).head)
     where
       each : (a : ℕ) → term o r a (get_or v a 0) ≤ 4
       each a = omega (arith, weigh_le (times_in o r (a * 2)) (truth_of (pos a) (get_or v a 0)), weigh_le (times_in o r (a * 2 + 1)) (truth_of (negsuc a) (get_or v a 0)), ix.once r (a * 2), ix.once r (a * 2 + 1))
@@ -98,7 +99,7 @@ module _ (g : Rules) (o : Index) (ix : Indexed g o) where
       go false false = omega (arith, sum_bound (λ a. term o r a (get_or v a 0)) 4 0 1025 each)
 
   -- a rule with a weighted body has no terms
-  pub term_none : (r c y : ℕ) → r < g.count → is_weighted (row_of g r).a ≡ true → c ≤ 1024 → term o r c y ≡ 0
+  pub term_none : (r c y : ℕ) → r < g.count → is_weighted (row_of g r).body ≡ true → c ≤ 1024 → term o r c y ≡ 0
   term_none r c y h e l = rw (ix.apart r (c * 2) h e (omega arith), ix.apart r (c * 2 + 1) h e (omega arith)) (nothing (truth_of (pos c) y) (truth_of (negsuc c) y))
     where
       none : (x : ℕ) → weigh 0 x ≡ 0
@@ -120,18 +121,18 @@ module _ (g : Rules) (o : Index) (ix : Indexed g o) where
       omega arith
 
   key_set : (w v : List ℕ) (c x r : ℕ) → r < g.count → c < 1025 → c < length v → key_as g o w (set v c x) r + term o r c (get_or v c 0) ≡ key_as g o w v r + term o r c x
-  key_set w v c x r i h l = go (is_weighted (row_of g r).a) refl
+  key_set w v c x r i h l = go (is_weighted (row_of g r).body) refl
     where
-      go : (b : Bool) → is_weighted (row_of g r).a ≡ b
-          → pick b (weigh_number g.pool w (row_of g r)) (pick (is_choice (row_of g r).a) 2 0 + terms (set v c x) r) + term o r c (get_or v c 0)
-          ≡ pick b (weigh_number g.pool w (row_of g r)) (pick (is_choice (row_of g r).a) 2 0 + terms v r) + term o r c x
+      go : (b : Bool) → is_weighted (row_of g r).body ≡ b
+          → pick b (weigh_number g.pool w (row_of g r)) (pick (is_choice (row_of g r).head) 2 0 + terms (set v c x) r) + term o r c (get_or v c 0)
+          ≡ pick b (weigh_number g.pool w (row_of g r)) (pick (is_choice (row_of g r).head) 2 0 + terms v r) + term o r c x
       go true e = rw (term_none r c (get_or v c 0) i e (omega arith), term_none r c x i e (omega arith))
       go false e = omega (arith, terms_set v c x r h l)
 
   term_le : (w v : List ℕ) (c r : ℕ) → r < g.count → c < 1025 → term o r c (get_or v c 0) ≤ key_as g o w v r
-  term_le w v c r i h = go (is_weighted (row_of g r).a) refl
+  term_le w v c r i h = go (is_weighted (row_of g r).body) refl
     where
-      go : (b : Bool) → is_weighted (row_of g r).a ≡ b → term o r c (get_or v c 0) ≤ pick b (weigh_number g.pool w (row_of g r)) (pick (is_choice (row_of g r).a) 2 0 + terms v r)
+      go : (b : Bool) → is_weighted (row_of g r).body ≡ b → term o r c (get_or v c 0) ≤ pick b (weigh_number g.pool w (row_of g r)) (pick (is_choice (row_of g r).head) 2 0 + terms v r)
       go true e = omega (arith, term_none r c (get_or v c 0) i e (omega arith))
       go false e = let z = sum_part (λ a. term o r a (get_or v a 0)) c 0 1025 (omega arith) (omega arith) in omega arith
 
@@ -184,10 +185,10 @@ module _ (g : Rules) (o : Index) (ix : Indexed g o) where
             let e : get_or v a 0 ≡ 2 = omega (arith, k.small a) in
             shift_counted w v (freed a t) a 0 (a * 2) (a * 2 + 1) (freed_counted g o w v a t k) (omega arith) (omega arith) (omega arith) (omega arith) (λ r c. omega (arith, enough 2 e r c)) (λ r c. omega (arith, by_values 2 0 e r c)) (below_freed v a t.marks.atom k.below)
 
-  weighted_key : (w v : List ℕ) (r : ℕ) → is_weighted (row_of g r).a ≡ true → key_as g o w v r ≡ weigh_number g.pool w (row_of g r)
+  weighted_key : (w v : List ℕ) (r : ℕ) → is_weighted (row_of g r).body ≡ true → key_as g o w v r ≡ weigh_number g.pool w (row_of g r)
   weighted_key w v r e = rw e
 
-  normal_key : (w v : List ℕ) (r : ℕ) → is_weighted (row_of g r).a ≡ false → key_as g o w v r ≡ pick (is_choice (row_of g r).a) 2 0 + terms v r
+  normal_key : (w v : List ℕ) (r : ℕ) → is_weighted (row_of g r).body ≡ false → key_as g o w v r ≡ pick (is_choice (row_of g r).head) 2 0 + terms v r
   normal_key w v r e = rw e
 
   -- ---- order 2: the rules with a weighted body that name the atom a get their numbers
@@ -211,16 +212,16 @@ module _ (g : Rules) (o : Index) (ix : Indexed g o) where
       after r = get_or (weigh_from (bodies g.pool g.rows) v o.rules (first o (2050 + a)) (list_length o (2050 + a)) t).key r 0
 
       -- a rule that does not name it has the same number under both
-      same : (r : ℕ) → r < g.count → is_weighted (row_of g r).a ≡ true → times_in o r (2050 + a) ≡ 0 → weigh_number g.pool v (row_of g r) ≡ weigh_number g.pool w (row_of g r)
+      same : (r : ℕ) → r < g.count → is_weighted (row_of g r).body ≡ true → times_in o r (2050 + a) ≡ 0 → weigh_number g.pool v (row_of g r) ≡ weigh_number g.pool w (row_of g r)
       same r h e z = number_alike v w g.pool (row_of g r) (λ x p q. s (nat_abs (get_or g.pool x (pos 0))) (λ y. absurd (omega (arith, ap (λ (n : ℕ). times_in o r (2050 + n)) y, ix.weighs r x h e p q))))
 
-      by : (r : ℕ) → r < g.count → is_weighted (row_of g r).a ≡ true → (c : Bool) → eqb (times_in o r (2050 + a)) 0 ≡ c → after r ≡ weigh_number g.pool v (row_of g r)
+      by : (r : ℕ) → r < g.count → is_weighted (row_of g r).body ≡ true → (c : Bool) → eqb (times_in o r (2050 + a)) 0 ≡ c → after r ≡ weigh_number g.pool v (row_of g r)
       by r h e true q =
           weigh_has g.count ix.few (bodies g.pool g.rows) v o.rules (first o (2050 + a)) (list_length o (2050 + a)) t k.marked inside r h
           (inr (k.each r h ∙ weighted_key w v r e ∙ sym (same r h e (eqb-true (times_in o r (2050 + a)) 0 q))))
       by r h e false q = weigh_has g.count ix.few (bodies g.pool g.rows) v o.rules (first o (2050 + a)) (list_length o (2050 + a)) t k.marked inside r h (inl (eqb-false (times_in o r (2050 + a)) 0 q))
 
-      none : (r : ℕ) → r < g.count → is_weighted (row_of g r).a ≡ false → times_in o r (2050 + a) ≡ 0
+      none : (r : ℕ) → r < g.count → is_weighted (row_of g r).body ≡ false → times_in o r (2050 + a) ≡ 0
       none r h e = go (eqb (times_in o r (2050 + a)) 0) refl
         where
           go : (c : Bool) → eqb (times_in o r (2050 + a)) 0 ≡ c → times_in o r (2050 + a) ≡ 0
@@ -228,9 +229,9 @@ module _ (g : Rules) (o : Index) (ix : Indexed g o) where
           go false q = absurd (clash (sym e ∙ ix.bodied r a h l (eqb-false (times_in o r (2050 + a)) 0 q)))
 
       each : (r : ℕ) → r < g.count → after r ≡ key_of g o v r
-      each r h = go (is_weighted (row_of g r).a) refl
+      each r h = go (is_weighted (row_of g r).body) refl
         where
-          go : (c : Bool) → is_weighted (row_of g r).a ≡ c → after r ≡ pick c (weigh_number g.pool v (row_of g r)) (pick (is_choice (row_of g r).a) 2 0 + terms v r)
+          go : (c : Bool) → is_weighted (row_of g r).body ≡ c → after r ≡ pick c (weigh_number g.pool v (row_of g r)) (pick (is_choice (row_of g r).head) 2 0 + terms v r)
           go true e = by r h e (eqb (times_in o r (2050 + a)) 0) refl
           go false e = weigh_keeps g.count ix.few (bodies g.pool g.rows) v o.rules (first o (2050 + a)) (list_length o (2050 + a)) t k.marked inside r (none r h e) ∙ k.each r h ∙ normal_key w v r e
 

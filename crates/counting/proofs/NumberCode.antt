@@ -8,6 +8,7 @@ use lib.Dec.{eqb, ltb, leb}
 use borrow.Author.Tests.{eq-eqb, ne_eqb, le-leb, lt-leb, leb-true, leb-false}
 use lib.IntN.{ℤ, pos, nat_abs}
 use lib.ListN.{length, get_or}
+use Rattle.asp.specs.declared.rules.Row.{Row}
 use Rattle.asp.specs.Sets.{pick}
 use Rattle.asp.specs.Program.{Weighed}
 use Rattle.asp.specs.Tables.{span, is_choice, is_mixed, pair_at, pairs_at, row_at}
@@ -24,7 +25,7 @@ use Rattle.search.proofs.ScanLaws.{off_stays}
 use Rattle.counting.specs.Counters.{index, rest_number, weigh_number, open_at, bodies}
 use Rattle.counting.specs.Moves.{RowReadable, ListReadable, Fit}
 
-module _ (pool : List ℤ) (rows : List ℕ) (r : ℕ) where
+module _ (pool : List ℤ) (rows : List Row) (r : ℕ) where
   -- ---- the head
 
   pub head_chosen : (v : List ℕ) {k : ℕ} {x : Bool} → k ≡ get_or rows (r * 4) 0 → x ≡ is_choice k → x ≡ true → Off ≡ head_rest pool v (row_at rows r)

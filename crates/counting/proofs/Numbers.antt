@@ -9,9 +9,10 @@ use lib.Dec.{eqb, ltb}
 use lib.IntN.{ℤ, pos, neg_ℤ, nat_abs}
 use lib.ListN.{get_or, set}
 use borrow.Author.Tests.{eqb-true, eqb-false}
+use Rattle.asp.specs.declared.rules.Row.{Row}
 use Rattle.asp.specs.Sets.{pick, ind}
 use Rattle.asp.specs.Program.{Weighed}
-use Rattle.asp.specs.Tables.{span, is_choice, is_mixed, pair_at, pairs_at, bound_at, Row}
+use Rattle.asp.specs.Tables.{span, is_choice, is_mixed, pair_at, pairs_at, bound_at}
 use Rattle.asp.proofs.Signed.{abs_neg}
 use Rattle.search.specs.Places.{truth_at}
 use Rattle.search.specs.declared.scan.Rest.{Rest}
@@ -80,24 +81,24 @@ module _ (v w : List ℕ) where
 
   -- the values of the atoms at the places that count are the same
   pub number_alike : (pool : List ℤ) (x : Row)
-      → ((k : ℕ) → pick (is_choice x.a) (x.b + x.c) x.b ≤ k → k < x.b + x.c + x.d → get_or v (nat_abs (get_or pool k (pos 0))) 0 ≡ get_or w (nat_abs (get_or pool k (pos 0))) 0)
+      → ((k : ℕ) → pick (is_choice x.head) (x.first + x.heads) x.first ≤ k → k < x.first + x.heads + x.literals → get_or v (nat_abs (get_or pool k (pos 0))) 0 ≡ get_or w (nat_abs (get_or pool k (pos 0))) 0)
       → weigh_number pool v x ≡ weigh_number pool w x
   unfolding weigh_number
   number_alike pool x h =
-      ap₂ (λ (a b : Rest). rest_number a + rest_number b) (head (is_choice x.a) refl)
-      (body_alike (is_mixed x.a) (bound_at pool x) (pairs_at pool (x.d + 1) (x.b + x.c) x.d)
-      (pairs_alike pool (x.d + 1) (x.b + x.c) x.d (λ j a b. truth_alike (get_or pool j (pos 0)) (h j (low (is_choice x.a) j a) (omega arith)))))
+      ap₂ (λ (a b : Rest). rest_number a + rest_number b) (head (is_choice x.head) refl)
+      (body_alike (is_mixed x.body) (bound_at pool x) (pairs_at pool (x.literals + 1) (x.first + x.heads) x.literals)
+      (pairs_alike pool (x.literals + 1) (x.first + x.heads) x.literals (λ j a b. truth_alike (get_or pool j (pos 0)) (h j (low (is_choice x.head) j a) (omega arith)))))
     where
-      low : (b : Bool) (j : ℕ) → x.b + x.c ≤ j → pick b (x.b + x.c) x.b ≤ j
+      low : (b : Bool) (j : ℕ) → x.first + x.heads ≤ j → pick b (x.first + x.heads) x.first ≤ j
       low true j a = a
       low false j a = omega arith
 
-      head : (b : Bool) → is_choice x.a ≡ b → meets v (pick b Off All) (head_conditions pool x) ≡ meets w (pick b Off All) (head_conditions pool x)
+      head : (b : Bool) → is_choice x.head ≡ b → meets v (pick b Off All) (head_conditions pool x) ≡ meets w (pick b Off All) (head_conditions pool x)
       head true e = off_stays v (head_conditions pool x) ∙ sym (off_stays w (head_conditions pool x))
       head false e =
-          meets_alike pool (x.b + x.c) All x.b x.c
-          (λ j a b. truth_alike (cond_at pool (x.b + x.c) j)
-          (let z : nat_abs (cond_at pool (x.b + x.c) j) ≡ nat_abs (get_or pool j (pos 0)) = cond_abs (ltb j (x.b + x.c)) (get_or pool j (pos 0)) in rw z (h j (rw e a) (omega arith))))
+          meets_alike pool (x.first + x.heads) All x.first x.heads
+          (λ j a b. truth_alike (cond_at pool (x.first + x.heads) j)
+          (let z : nat_abs (cond_at pool (x.first + x.heads) j) ≡ nat_abs (get_or pool j (pos 0)) = cond_abs (ltb j (x.first + x.heads)) (get_or pool j (pos 0)) in rw z (h j (rw e a) (omega arith))))
 
 -- ---- a rule gets its number
 

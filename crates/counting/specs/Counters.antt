@@ -1,8 +1,9 @@
 -- A number for each rule, kept by every move: what a move does to the table. Assumes nothing: these are definitions.
 use Rattle.std.specs.Prelude.{◌≡◌, Bool, List, [], ◌∷◌, ℤ, ℕ, zero, suc, ◌+◌, ◌-◌, ◌*◌, ◌≤◌, ◌<◌, max, eqb, ltb, length, get_or, set}
+use Rattle.asp.specs.declared.rules.Row.{Row}
 use Rattle.asp.specs.Sets.{pick}
 use Rattle.asp.specs.Program.{Weighed}
-use Rattle.asp.specs.Tables.{Row, row_at}
+use Rattle.asp.specs.Tables.{row_at}
 use Rattle.search.specs.Places.{truth_at}
 use Rattle.search.specs.Scan.{head_rest, weighted_rest}
 use Rattle.search.specs.declared.scan.Rest.{Rest}

@@ -17,10 +17,10 @@ counted_trail t y = record { trail = t; counters = y }
 -- the row of a rule with a weighted body can be read
 pub record RowReadable (b : Bodies) (r : ℕ) : Type 0 where
   pub long : r * 4 + 4 ≤ length b.rows
-  pub weighted : is_weighted (row_at b.rows r).a ≡ true
-  pub single : is_choice (row_at b.rows r).a ≡ false → (row_at b.rows r).c ≤ 1
-  pub inside : (row_at b.rows r).b + (row_at b.rows r).c + (row_at b.rows r).d + 1 + (row_at b.rows r).d ≤ length b.pool
-  pub small : (k : ℕ) → (row_at b.rows r).b ≤ k → k < (row_at b.rows r).b + (row_at b.rows r).c + (row_at b.rows r).d → nat_abs (get_or b.pool k (pos 0)) ≤ 1024
+  pub weighted : is_weighted (row_at b.rows r).body ≡ true
+  pub single : is_choice (row_at b.rows r).head ≡ false → (row_at b.rows r).heads ≤ 1
+  pub inside : (row_at b.rows r).first + (row_at b.rows r).heads + (row_at b.rows r).literals + 1 + (row_at b.rows r).literals ≤ length b.pool
+  pub small : (k : ℕ) → (row_at b.rows r).first ≤ k → k < (row_at b.rows r).first + (row_at b.rows r).heads + (row_at b.rows r).literals → nat_abs (get_or b.pool k (pos 0)) ≤ 1024
 
 -- and so can those of the rules at some places of a list
 pub record ListReadable (b : Bodies) (rs : List ℕ) (from end : ℕ) : Type 0 where

@@ -10,10 +10,11 @@ use lib.IntN.{ℤ, pos, negsuc, nat_abs}
 use lib.ListN.{get_or}
 use mir.Facts.{and_yes, or_yes}
 use borrow.Author.Tests.{eqb-true, eqb-false, ltb-true, ltb-false, lt-ltb, le-ltb, eq-eqb, ne_eqb}
+use Rattle.asp.specs.declared.rules.Row.{Row}
 use Rattle.asp.specs.Sets.{Set, Sub, In, set_of, pick, same, ind}
 use Rattle.asp.specs.Program.{Weighed, All, LiteralIn}
 use Rattle.asp.specs.Stable.{holds, holds_in, all_hold, counts, body_holds, member, head_adds, rule_adds, adds, constraint_fails, any_violated, Stable, closure, is_stable}
-use Rattle.asp.specs.Tables.{span, named, literals_at, atoms_at, is_choice, is_weighted, is_mixed, pairs_at, bound_at, Row, row_at, head_at, rule_at, rules_of, Formed}
+use Rattle.asp.specs.Tables.{span, named, literals_at, atoms_at, is_choice, is_weighted, is_mixed, pairs_at, bound_at, row_at, head_at, rule_at, rules_of, Formed}
 use Rattle.asp.proofs.Pairs.{body_weighted, body_normal}
 use Rattle.asp.proofs.Rules.{head_choice, head_none, head_plain}
 use Rattle.asp.proofs.Stability.{stable_yes, closure_least, rule_mono, head_in}
@@ -156,19 +157,19 @@ member_at pool a i (suc k) t = go (or_yes (eqb a (named (get_or pool i (pos 0)))
     go (inl e) r = record { at = i; from = omega arith; to = omega arith; is = sym (eqb→eq a (named (get_or pool i (pos 0))) e) }
     go (inr u) r = let p = r u in record { at = p.at; from = omega (arith, p.from); to = omega (arith, p.to); is = p.is }
 
-head_adds_lem : (M : Set) (pool : List ℤ) (w : Row) (a : ℕ) → T (head_adds M (head_at pool w) a) → Headed pool w.b w.c a
-head_adds_lem M pool w a t = go (is_choice w.a) refl (eqb w.c 0) refl
+head_adds_lem : (M : Set) (pool : List ℤ) (w : Row) (a : ℕ) → T (head_adds M (head_at pool w) a) → Headed pool w.first w.heads a
+head_adds_lem M pool w a t = go (is_choice w.head) refl (eqb w.heads 0) refl
   where
-    go : (x : Bool) → is_choice w.a ≡ x → (y : Bool) → eqb w.c 0 ≡ y → Headed pool w.b w.c a
-    go true e y q = member_at pool a w.b w.c (and_yes (M a) (member a (atoms_at pool w.b w.c)) (rw (head_choice pool w e) at t)).1
-    go false e true q = absurd (rw (head_none pool w e (eqb-true w.c 0 q)) at t)
+    go : (x : Bool) → is_choice w.head ≡ x → (y : Bool) → eqb w.heads 0 ≡ y → Headed pool w.first w.heads a
+    go true e y q = member_at pool a w.first w.heads (and_yes (M a) (member a (atoms_at pool w.first w.heads)) (rw (head_choice pool w e) at t)).1
+    go false e true q = absurd (rw (head_none pool w e (eqb-true w.heads 0 q)) at t)
     go false e false q =
-        let n = eqb-false w.c 0 q in
-        record { at = w.b; from = omega arith; to = omega arith; is = sym (eqb→eq a (named (get_or pool w.b (pos 0))) (rw (head_plain pool w e n) at t)) }
+        let n = eqb-false w.heads 0 q in
+        record { at = w.first; from = omega arith; to = omega arith; is = sym (eqb→eq a (named (get_or pool w.first (pos 0))) (rw (head_plain pool w e n) at t)) }
 
 -- ---- the number of a rule that adds an atom of the set
 
-module _ (n : ℕ) (pool : List ℤ) (rows : List ℕ) (count : ℕ) (form : Formed n pool rows count) (o h : Index) (v : List ℕ) (t : Counters) (leaf : Leaf (rules pool rows count) n o h v t) where
+module _ (n : ℕ) (pool : List ℤ) (rows : List Row) (count : ℕ) (form : Formed n pool rows count) (o h : Index) (v : List ℕ) (t : Counters) (leaf : Leaf (rules pool rows count) n o h v t) where
   abbrev G : Rules
   G = rules pool rows count
 
@@ -178,15 +179,15 @@ module _ (n : ℕ) (pool : List ℤ) (rows : List ℕ) (count : ℕ) (form : For
   small : (a : ℕ) → get_or v a 0 ≤ 2
   small = leaf.counted.small
 
-  module _ (r : ℕ) (c : r < count) (body : T (body_holds M M (rule_at pool (row_at rows r)).body)) (nw : is_weighted (row_at rows r).a ≡ false) where
+  module _ (r : ℕ) (c : r < count) (body : T (body_holds M M (rule_at pool (row_at rows r)).body)) (nw : is_weighted (row_at rows r).body ≡ false) where
     abbrev W : Row
     W = row_at rows r
 
-    body_true : (k : ℕ) → W.b + W.c ≤ k → k < W.b + W.c + W.d → truth_at v (get_or pool k (pos 0)) ≡ 1
-    body_true k a b = holds_true n v leaf.whole small (get_or pool k (pos 0)) (atom_in_lem n pool rows count form r c k (omega arith) b) (hold_at M M pool (W.b + W.c) W.d (rw (body_normal pool W nw) at body) k a b)
+    body_true : (k : ℕ) → W.first + W.heads ≤ k → k < W.first + W.heads + W.literals → truth_at v (get_or pool k (pos 0)) ≡ 1
+    body_true k a b = holds_true n v leaf.whole small (get_or pool k (pos 0)) (atom_in_lem n pool rows count form r c k (omega arith) b) (hold_at M M pool (W.first + W.heads) W.literals (rw (body_normal pool W nw) at body) k a b)
 
-    cond_body : (k : ℕ) → W.b + W.c ≤ k → cond_at pool (W.b + W.c) k ≡ get_or pool k (pos 0)
-    cond_body k a = rw (le-ltb k (W.b + W.c) a)
+    cond_body : (k : ℕ) → W.first + W.heads ≤ k → cond_at pool (W.first + W.heads) k ≡ get_or pool k (pos 0)
+    cond_body k a = rw (le-ltb k (W.first + W.heads) a)
 
     -- a literal that is true wherever it is held weighs nothing
     weigh_lit : (l : ℤ) → 1 ≤ nat_abs l → nat_abs l ≤ 1024 → (StandsAt G leaf.readied r c l → truth_at v l ≡ 1) → weigh (times_in o r (list_of l)) (truth_at v l) ≡ 0
@@ -203,40 +204,40 @@ module _ (n : ℕ) (pool : List ℤ) (rows : List ℕ) (count : ℕ) (form : For
     term_zero (suc a) b f = ap₂ (λ (x y : ℕ). x + y) (weigh_lit (pos (suc a)) (omega arith) b (f (pos (suc a)) refl)) (weigh_lit (negsuc a) (omega arith) b (f (negsuc a) refl))
 
     -- a literal that is held in the body
-    in_body : (l : ℤ) (p : StandsAt G leaf.readied r c l) → W.b + W.c ≤ p.at → truth_at v l ≡ 1
+    in_body : (l : ℤ) (p : StandsAt G leaf.readied r c l) → W.first + W.heads ≤ p.at → truth_at v l ≡ 1
     in_body l p a = let z : l ≡ get_or pool p.at (pos 0) = sym p.is ∙ cond_body p.at a in rw z (body_true p.at a p.to)
 
-    body_key : W.b + W.c ≤ lo_in false rows r → sum_from (λ a. term o r a (get_or v a 0)) 0 1025 ≡ 0
+    body_key : W.first + W.heads ≤ lo_in false rows r → sum_from (λ a. term o r a (get_or v a 0)) 0 1025 ≡ 0
     body_key a = sum_none (λ a. term o r a (get_or v a 0)) 0 1025 (λ x p q. term_zero x (omega arith) (λ l e k. in_body l k (omega (arith, k.from))))
 
-    normal_choice : is_choice W.a ≡ true → key_of G o v r ≡ 2
+    normal_choice : is_choice W.head ≡ true → key_of G o v r ≡ 2
     normal_choice e = rw (nw, e) (omega (arith, body_key (let z = lo_choice G leaf.readied r c e in omega arith)))
 
-    normal_constraint : is_choice W.a ≡ false → W.c ≡ 0 → key_of G o v r ≡ 0
+    normal_constraint : is_choice W.head ≡ false → W.heads ≡ 0 → key_of G o v r ≡ 0
     normal_constraint m e = rw (nw, m) (omega (arith, body_key (let z = lo_plain G leaf.readied r c m in omega arith)))
 
     -- the head atom, which is in: its complement is the one condition that is false
-    module _ (a : ℕ) (plain-rule : is_choice W.a ≡ false) (one : W.c ≡ 1) (head : get_or pool W.b (pos 0) ≡ pos (suc a)) (inside : T (M (suc a))) (lim : suc a ≤ 1024) where
+    module _ (a : ℕ) (plain-rule : is_choice W.head ≡ false) (one : W.heads ≡ 1) (head : get_or pool W.first (pos 0) ≡ pos (suc a)) (inside : T (M (suc a))) (lim : suc a ≤ 1024) where
       value_one : get_or v (suc a) 0 ≡ 1
       value_one = in_true n v leaf.whole small (suc a) inside
 
-      cond_head : cond_at pool (W.b + W.c) W.b ≡ negsuc a
-      cond_head = rw (lt-ltb W.b (W.b + W.c) (omega arith), head)
+      cond_head : cond_at pool (W.first + W.heads) W.first ≡ negsuc a
+      cond_head = rw (lt-ltb W.first (W.first + W.heads) (omega arith), head)
 
       other : (l : ℤ) → (l ≡ negsuc a → ⊥) → StandsAt G leaf.readied r c l → truth_at v l ≡ 1
-      other l m p = go (ltb p.at (W.b + W.c)) refl
+      other l m p = go (ltb p.at (W.first + W.heads)) refl
         where
-          go : (x : Bool) → ltb p.at (W.b + W.c) ≡ x → truth_at v l ≡ 1
+          go : (x : Bool) → ltb p.at (W.first + W.heads) ≡ x → truth_at v l ≡ 1
           go true e =
               let u = lo_plain G leaf.readied r c plain-rule in
-              let z : p.at ≡ W.b = omega (arith, p.from, ltb-true p.at (W.b + W.c) e) in
-              absurd (m (sym p.is ∙ ap (cond_at pool (W.b + W.c)) z ∙ cond_head))
-          go false e = in_body l p (ltb-false p.at (W.b + W.c) e)
+              let z : p.at ≡ W.b = omega (arith, p.from, ltb-true p.at (W.first + W.heads) e) in
+              absurd (m (sym p.is ∙ ap (cond_at pool (W.first + W.heads)) z ∙ cond_head))
+          go false e = in_body l p (ltb-false p.at (W.first + W.heads) e)
 
       at_head : term o r (suc a) (get_or v (suc a) 0) ≡ 2
       at_head =
           let u = lo_plain G leaf.readied r c plain-rule in
-          let tms : times_in o r (suc a * 2 + 1) ≡ 1 = ap (λ (l : ℤ). times_in o r (list_of l)) (sym cond_head) ∙ listed G o leaf.readied leaf.conditions r W.b c nw (omega arith) (omega arith) in
+          let tms : times_in o r (suc a * 2 + 1) ≡ 1 = ap (λ (l : ℤ). times_in o r (list_of l)) (sym cond_head) ∙ listed G o leaf.readied leaf.conditions r W.first c nw (omega arith) (omega arith) in
           rw (value_one, tms) refl
 
       normal_plain : key_of G o v r ≡ 2
@@ -252,30 +253,30 @@ module _ (n : ℕ) (pool : List ℤ) (rows : List ℕ) (count : ℕ) (form : For
 
   -- ---- order 2: the same of a rule with a weighted body
 
-  module _ (r : ℕ) (c : r < count) (body : T (body_holds M M (rule_at pool (row_at rows r)).body)) (w : is_weighted (row_at rows r).a ≡ true) where
+  module _ (r : ℕ) (c : r < count) (body : T (body_holds M M (rule_at pool (row_at rows r)).body)) (w : is_weighted (row_at rows r).body ≡ true) where
     abbrev X : Row
     X = row_at rows r
 
     body_all : weighted_rest pool v X ≡ Rest.All
     body_all =
-        body_full n v leaf.whole small (is_mixed X.a) (bound_at pool X) (pairs_at pool (X.d + 1) (X.b + X.c) X.d) (rw (body_weighted pool X w) at (rule_in n pool rows count form r c).1)
+        body_full n v leaf.whole small (is_mixed X.body) (bound_at pool X) (pairs_at pool (X.literals + 1) (X.first + X.heads) X.literals) (rw (body_weighted pool X w) at (rule_in n pool rows count form r c).1)
         (rw (body_weighted pool X w) at body)
 
     key_by : (s : Rest) → head_rest pool v X ≡ s → key_of G o v r ≡ rest_number s
     unfolding weigh_number
     key_by s e = rw (w, e, body_all) (omega arith)
 
-    weighted_choice : is_choice X.a ≡ true → key_of G o v r ≡ 2
+    weighted_choice : is_choice X.head ≡ true → key_of G o v r ≡ 2
     weighted_choice e = key_by Rest.Off (rw e (off_stays v (head_conditions pool X)))
 
-    weighted_constraint : is_choice X.a ≡ false → X.c ≡ 0 → key_of G o v r ≡ 0
+    weighted_constraint : is_choice X.head ≡ false → X.heads ≡ 0 → key_of G o v r ≡ 0
     unfolding span meets
     weighted_constraint e z = key_by Rest.All (rw (e, z) refl)
 
-    module _ (a : ℕ) (m : is_choice X.a ≡ false) (one : X.c ≡ 1) (head : get_or pool X.b (pos 0) ≡ pos (suc a)) where
+    module _ (a : ℕ) (m : is_choice X.head ≡ false) (one : X.heads ≡ 1) (head : get_or pool X.first (pos 0) ≡ pos (suc a)) where
       head_is : head_rest pool v X ≡ meet_of v Rest.All (negsuc a)
       unfolding span meets
-      head_is = rw (m, one, lt-ltb X.b (X.b + 1) (omega arith), head) refl
+      head_is = rw (m, one, lt-ltb X.first (X.first + 1) (omega arith), head) refl
 
       weighted_plain : T (M (suc a)) → key_of G o v r ≡ 2
       weighted_plain u = key_by Rest.Off (head_is ∙ (let z = in_true n v leaf.whole small (suc a) u in rw z refl))
@@ -286,54 +287,54 @@ module _ (n : ℕ) (pool : List ℤ) (rows : List ℕ) (count : ℕ) (form : For
   -- ---- either body
 
   module _ (r : ℕ) (c : r < count) (body : T (body_holds M M (rule_at pool (row_at rows r)).body)) where
-    key_choice : is_choice (row_at rows r).a ≡ true → key_of G o v r ≡ 2
-    key_choice e = go (is_weighted (row_at rows r).a) refl
+    key_choice : is_choice (row_at rows r).head ≡ true → key_of G o v r ≡ 2
+    key_choice e = go (is_weighted (row_at rows r).body) refl
       where
-        go : (b : Bool) → is_weighted (row_at rows r).a ≡ b → key_of G o v r ≡ 2
+        go : (b : Bool) → is_weighted (row_at rows r).body ≡ b → key_of G o v r ≡ 2
         go true w = weighted_choice r c body w e
         go false w = normal_choice r c body w e
 
-    key_constraint : is_choice (row_at rows r).a ≡ false → (row_at rows r).c ≡ 0 → key_of G o v r ≡ 0
-    key_constraint m e = go (is_weighted (row_at rows r).a) refl
+    key_constraint : is_choice (row_at rows r).head ≡ false → (row_at rows r).heads ≡ 0 → key_of G o v r ≡ 0
+    key_constraint m e = go (is_weighted (row_at rows r).body) refl
       where
-        go : (b : Bool) → is_weighted (row_at rows r).a ≡ b → key_of G o v r ≡ 0
+        go : (b : Bool) → is_weighted (row_at rows r).body ≡ b → key_of G o v r ≡ 0
         go true w = weighted_constraint r c body w m e
         go false w = normal_constraint r c body w m e
 
-    key_plain : (a : ℕ) → is_choice (row_at rows r).a ≡ false → (row_at rows r).c ≡ 1 → get_or pool (row_at rows r).b (pos 0) ≡ pos (suc a) → T (M (suc a)) → suc a ≤ 1024 → key_of G o v r ≡ 2
-    key_plain a m one hd u l = go (is_weighted (row_at rows r).a) refl
+    key_plain : (a : ℕ) → is_choice (row_at rows r).head ≡ false → (row_at rows r).heads ≡ 1 → get_or pool (row_at rows r).first (pos 0) ≡ pos (suc a) → T (M (suc a)) → suc a ≤ 1024 → key_of G o v r ≡ 2
+    key_plain a m one hd u l = go (is_weighted (row_at rows r).body) refl
       where
-        go : (b : Bool) → is_weighted (row_at rows r).a ≡ b → key_of G o v r ≡ 2
+        go : (b : Bool) → is_weighted (row_at rows r).body ≡ b → key_of G o v r ≡ 2
         go true w = weighted_plain r c body w a m one hd u
         go false w = normal_plain r c body w a m one hd u l
 
   -- each rule that adds an atom of the set has the number 2
   pub adds_two : (r : ℕ) → r < count → (a : ℕ) → T (rule_adds M (rule_at pool (row_at rows r)) M a) → T (M a) → get_or t.key r 0 ≡ 2
-  adds_two r c a u i = leaf.counted.each r c ∙ go (is_choice (row_at rows r).a) refl a (leaf.whole.only.only a i) i hd
+  adds_two r c a u i = leaf.counted.each r c ∙ go (is_choice (row_at rows r).head) refl a (leaf.whole.only.only a i) i hd
     where
       both : T (body_holds M M (rule_at pool (row_at rows r)).body) × T (head_adds M (head_at pool (row_at rows r)) a)
       both = and_yes (body_holds M M (rule_at pool (row_at rows r)).body) (head_adds M (head_at pool (row_at rows r)) a) u
 
-      hd : Headed pool (row_at rows r).b (row_at rows r).c a
+      hd : Headed pool (row_at rows r).first (row_at rows r).heads a
       hd = head_adds_lem M pool (row_at rows r) a both.1
 
-      go : (x : Bool) → is_choice (row_at rows r).a ≡ x → (b : ℕ) → In n b → T (M b) → Headed pool (row_at rows r).b (row_at rows r).c b → key_of G o v r ≡ 2
+      go : (x : Bool) → is_choice (row_at rows r).head ≡ x → (b : ℕ) → In n b → T (M b) → Headed pool (row_at rows r).first (row_at rows r).heads b → key_of G o v r ≡ 2
       go true e b j k p = key_choice r c both.0 e
       go false e zero j k p = absurd (omega (arith, j.0))
       go false e (suc b) j k p =
-          let m : is_choice (row_at rows r).a ≡ false = e in
+          let m : is_choice (row_at rows r).head ≡ false = e in
           let s = (form.row r c).single m in
           let z : p.at ≡ (row_at rows r).b = omega (arith, p.from, p.to) in
-          let y : (row_at rows r).c ≡ 1 = omega (arith, p.from, p.to) in
-          let x : named (get_or pool (row_at rows r).b (pos 0)) ≡ suc b = rw z at p.is in
-          key_plain r c both.0 b m y (sym (named_is n (get_or pool (row_at rows r).b (pos 0)) (rw x j)) ∙ ap pos x) k (omega (arith, j.1, form.few))
+          let y : (row_at rows r).heads ≡ 1 = omega (arith, p.from, p.to) in
+          let x : named (get_or pool (row_at rows r).first (pos 0)) ≡ suc b = rw z at p.is in
+          key_plain r c both.0 b m y (sym (named_is n (get_or pool (row_at rows r).first (pos 0)) (rw x j)) ∙ ap pos x) k (omega (arith, j.1, form.few))
 
   -- ---- the head lists
 
-  head_stands : (r a : ℕ) → r < count → In n a → Headed pool (row_at rows r).b (row_at rows r).c a → stands true G r a ≡ true
+  head_stands : (r a : ℕ) → r < count → In n a → Headed pool (row_at rows r).first (row_at rows r).heads a → stands true G r a ≡ true
   unfolding spot_of weighed_in mid_in lo_in hi_in
   head_stands r a c i p =
-      seen_there (λ k. nat_abs (get_or pool k (pos 0))) (row_at rows r).b a ((row_at rows r).b + (row_at rows r).c - (row_at rows r).b) p.at p.from (omega (arith, p.to))
+      seen_there (λ k. nat_abs (get_or pool k (pos 0))) (row_at rows r).first a ((row_at rows r).first + (row_at rows r).heads - (row_at rows r).first) p.at p.from (omega (arith, p.to))
       (let x = p.is in ap nat_abs (sym (named_is n (get_or pool p.at (pos 0)) (rw x i)) ∙ ap pos x))
 
   pub unsupported_adds : (a : ℕ) → In n a → T (M a) → Unsupported h t.key a → (r : ℕ) → r < count → T (rule_adds M (rule_at pool (row_at rows r)) M a) → ⊥
@@ -368,15 +369,15 @@ module _ (n : ℕ) (pool : List ℤ) (rows : List ℕ) (count : ℕ) (form : For
   -- ---- no rule broken: no constraint is violated, and the set is closed
 
   violated_none : (r : ℕ) → r < count → constraint_fails M (rule_at pool (row_at rows r)) ≡ false
-  violated_none r c = go (constraint_fails M (rule_at pool (row_at rows r))) refl (is_choice (row_at rows r).a) refl (eqb (row_at rows r).c 0) refl
+  violated_none r c = go (constraint_fails M (rule_at pool (row_at rows r))) refl (is_choice (row_at rows r).head) refl (eqb (row_at rows r).heads 0) refl
     where
-      go : (b : Bool) → constraint_fails M (rule_at pool (row_at rows r)) ≡ b → (x : Bool) → is_choice (row_at rows r).a ≡ x → (y : Bool) → eqb (row_at rows r).c 0 ≡ y → b ≡ false
+      go : (b : Bool) → constraint_fails M (rule_at pool (row_at rows r)) ≡ b → (x : Bool) → is_choice (row_at rows r).head ≡ x → (y : Bool) → eqb (row_at rows r).heads 0 ≡ y → b ≡ false
       go false e x p y q = refl
       go true e true p y q = absurd (clash (rw (head_choice pool (row_at rows r) p) at e))
-      go true e false p false q = absurd (clash (rw (head_plain pool (row_at rows r) p (eqb-false (row_at rows r).c 0 q)) at e))
+      go true e false p false q = absurd (clash (rw (head_plain pool (row_at rows r) p (eqb-false (row_at rows r).heads 0 q)) at e))
       go true e false p true q =
-          let m : is_choice (row_at rows r).a ≡ false = p in
-          let z = eqb-true (row_at rows r).c 0 q in
+          let m : is_choice (row_at rows r).head ≡ false = p in
+          let z = eqb-true (row_at rows r).heads 0 q in
           let u : body_holds M M (rule_at pool (row_at rows r)).body ≡ true = rw (head_none pool (row_at rows r) m z) at e in
           absurd (leaf.unbroken.unbroken r c (leaf.counted.each r c ∙ key_constraint r c (rw u tt) m z))
 
@@ -390,44 +391,44 @@ module _ (n : ℕ) (pool : List ℤ) (rows : List ℕ) (count : ℕ) (form : For
   closure_left = rw (any_none 0 count (omega arith)) refl
 
   -- a plain rule whose body holds has its head in
-  key_broken : (r : ℕ) → r < count → T (body_holds M M (rule_at pool (row_at rows r)).body) → is_choice (row_at rows r).a ≡ false → (a : ℕ) → In n a → (row_at rows r).c ≡ 1 → get_or pool (row_at rows r).b (pos 0) ≡ pos a → T (not (M a)) → key_of G o v r ≡ 0
+  key_broken : (r : ℕ) → r < count → T (body_holds M M (rule_at pool (row_at rows r)).body) → is_choice (row_at rows r).head ≡ false → (a : ℕ) → In n a → (row_at rows r).heads ≡ 1 → get_or pool (row_at rows r).first (pos 0) ≡ pos a → T (not (M a)) → key_of G o v r ≡ 0
   key_broken r c body m zero i one hd u = absurd (omega (arith, i.0))
-  key_broken r c body m (suc a) i one hd u = go (is_weighted (row_at rows r).a) refl
+  key_broken r c body m (suc a) i one hd u = go (is_weighted (row_at rows r).body) refl
     where
-      go : (b : Bool) → is_weighted (row_at rows r).a ≡ b → key_of G o v r ≡ 0
+      go : (b : Bool) → is_weighted (row_at rows r).body ≡ b → key_of G o v r ≡ 0
       go true w = weighted_broken r c body w a m one hd i u
-      go false nw = rw (nw, m) (omega (arith, sum_none (λ x. term o r x (get_or v x 0)) 0 1025 (λ x p q. term_zero r c body nw x (omega arith) (λ l e k. each nw l k (ltb k.at ((row_at rows r).b + (row_at rows r).c)) refl))))
+      go false nw = rw (nw, m) (omega (arith, sum_none (λ x. term o r x (get_or v x 0)) 0 1025 (λ x p q. term_zero r c body nw x (omega arith) (λ l e k. each nw l k (ltb k.at ((row_at rows r).first + (row_at rows r).heads)) refl))))
         where
-          each : is_weighted (row_at rows r).a ≡ false → (l : ℤ) (k : StandsAt G leaf.readied r c l) → (b : Bool) → ltb k.at ((row_at rows r).b + (row_at rows r).c) ≡ b → truth_at v l ≡ 1
+          each : is_weighted (row_at rows r).body ≡ false → (l : ℤ) (k : StandsAt G leaf.readied r c l) → (b : Bool) → ltb k.at ((row_at rows r).first + (row_at rows r).heads) ≡ b → truth_at v l ≡ 1
           each nw l k true e =
               let w = lo_plain G leaf.readied r c m in
-              let z : k.at ≡ (row_at rows r).b = omega (arith, k.from, ltb-true k.at ((row_at rows r).b + (row_at rows r).c) e) in
-              let y : cond_at pool ((row_at rows r).b + (row_at rows r).c) (row_at rows r).b ≡ negsuc a = rw (lt-ltb (row_at rows r).b ((row_at rows r).b + (row_at rows r).c) (omega arith), hd) in
-              let x : l ≡ negsuc a = sym k.is ∙ ap (cond_at pool ((row_at rows r).b + (row_at rows r).c)) z ∙ y in
+              let z : k.at ≡ (row_at rows r).b = omega (arith, k.from, ltb-true k.at ((row_at rows r).first + (row_at rows r).heads) e) in
+              let y : cond_at pool ((row_at rows r).first + (row_at rows r).heads) (row_at rows r).first ≡ negsuc a = rw (lt-ltb (row_at rows r).first ((row_at rows r).first + (row_at rows r).heads) (omega arith), hd) in
+              let x : l ≡ negsuc a = sym k.is ∙ ap (cond_at pool ((row_at rows r).first + (row_at rows r).heads)) z ∙ y in
               rw x (holds_true n v leaf.whole small (negsuc a) i u)
-          each nw l k false e = in_body r c body nw l k (ltb-false k.at ((row_at rows r).b + (row_at rows r).c) e)
+          each nw l k false e = in_body r c body nw l k (ltb-false k.at ((row_at rows r).first + (row_at rows r).heads) e)
 
   -- so what a rule adds to the set is in it
   pub kept : (r : ℕ) → r < count → (a : ℕ) → T (rule_adds M (rule_at pool (row_at rows r)) M a) → T (M a)
-  kept r c a u = go (is_choice (row_at rows r).a) refl (M a) refl
+  kept r c a u = go (is_choice (row_at rows r).head) refl (M a) refl
     where
       both : T (body_holds M M (rule_at pool (row_at rows r)).body) × T (head_adds M (head_at pool (row_at rows r)) a)
       both = and_yes (body_holds M M (rule_at pool (row_at rows r)).body) (head_adds M (head_at pool (row_at rows r)) a) u
 
-      hd : Headed pool (row_at rows r).b (row_at rows r).c a
+      hd : Headed pool (row_at rows r).first (row_at rows r).heads a
       hd = head_adds_lem M pool (row_at rows r) a both.1
 
-      go : (x : Bool) → is_choice (row_at rows r).a ≡ x → (y : Bool) → M a ≡ y → T (M a)
+      go : (x : Bool) → is_choice (row_at rows r).head ≡ x → (y : Bool) → M a ≡ y → T (M a)
       go x e true q = rw q tt
-      go true e false q = (and_yes (M a) (member a (atoms_at pool (row_at rows r).b (row_at rows r).c)) (rw (head_choice pool (row_at rows r) e) at both.1)).0
+      go true e false q = (and_yes (M a) (member a (atoms_at pool (row_at rows r).first (row_at rows r).heads)) (rw (head_choice pool (row_at rows r) e) at both.1)).0
       go false e false q =
-          let m : is_choice (row_at rows r).a ≡ false = e in
+          let m : is_choice (row_at rows r).head ≡ false = e in
           let s = (form.row r c).single m in
           let z : hd.at ≡ (row_at rows r).b = omega (arith, hd.from, hd.to) in
-          let y : (row_at rows r).c ≡ 1 = omega (arith, hd.from, hd.to) in
-          let x : named (get_or pool (row_at rows r).b (pos 0)) ≡ a = rw z at hd.is in
+          let y : (row_at rows r).heads ≡ 1 = omega (arith, hd.from, hd.to) in
+          let x : named (get_or pool (row_at rows r).first (pos 0)) ≡ a = rw z at hd.is in
           let i : In n a = head_in n M (head_at pool (row_at rows r)) (rule_in n pool rows count form r c).0 a both.1 in
-          absurd (leaf.unbroken.unbroken r c (leaf.counted.each r c ∙ key_broken r c both.0 m a i y (sym (named_is n (get_or pool (row_at rows r).b (pos 0)) (rw x i)) ∙ ap pos x) (rw q tt)))
+          absurd (leaf.unbroken.unbroken r c (leaf.counted.each r c ∙ key_broken r c both.0 m a i y (sym (named_is n (get_or pool (row_at rows r).first (pos 0)) (rw x i)) ∙ ap pos x) (rw q tt)))
 
   -- ---- rounds over the rules with the number 2
 

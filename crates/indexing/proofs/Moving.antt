@@ -1,4 +1,5 @@
 -- The moves keep `Equipped`; a full trail that the machine's test leaves is a leaf. Assumes nothing.
+use Rattle.std.specs.Prelude.{Option, Some, None}
 use mathlib.Core.Path.{◌≡◌, refl, sym, ap, ◌∙◌}
 use mathlib.Core.Bool.{Bool, true, false}
 use mathlib.Core.List.{List, [], ◌∷◌}
@@ -22,8 +23,6 @@ use Rattle.search.specs.declared.scan.Rest.{Rest}
 use Rattle.search.specs.declared.scan.Rest.TheVariants.{All, One, Off}
 use Rattle.search.specs.declared.scan.Found.{Found}
 use Rattle.search.specs.declared.scan.Found.TheVariants.{Broken, Breaker, Clear}
-use Rattle.search.specs.declared.soft.Violation.{Violation}
-use Rattle.search.specs.declared.soft.Violation.TheVariants.{At, Unviolated}
 use Rattle.search.specs.declared.step.Tested.{Tested}
 use Rattle.search.specs.declared.step.Tested.TheVariants.{RuleBroken, Full, SoftViolated, Open}
 use Rattle.search.proofs.Counts.{on_not, all_on}
@@ -143,10 +142,10 @@ full_long : (n : ℕ) (s : AssumedEntries) (v : List ℕ) (len : ℕ) (f : Found
 unfolding unbroken
 full_long n s v len f = go (leb n len) refl (violated_of s v)
   where
-    go : (b : Bool) → leb n len ≡ b → (x : Violation) → IsFull (pick b Full (open_or (branch_of s.first s.wished s.count v n f) x)) → n ≤ len
+    go : (b : Bool) → leb n len ≡ b → (x : Option ℕ) → IsFull (pick b Full (open_or (branch_of s.first s.wished s.count v n f) x)) → n ≤ len
     go true e x u = leb-true n len e
-    go false e (At i) u = absurd u
-    go false e Unviolated u = absurd u
+    go false e (Some i) u = absurd u
+    go false e None u = absurd u
 
 full_says : (n : ℕ) (s : AssumedEntries) (v : List ℕ) (len : ℕ) (f : Found) → IsFull (test_by n s v len f) → (n ≤ len) × (IsBroken f → ⊥)
 full_says n s v len (Broken r) u = absurd u

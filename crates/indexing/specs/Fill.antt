@@ -1,7 +1,8 @@
 -- What fills the table of numbers. Assumes nothing: these are definitions.
 use Rattle.std.specs.Prelude.{◌≡◌, List, ℕ, ◌+◌, ◌*◌, ◌<◌, eqb, length, get_or, ℤ}
+use Rattle.asp.specs.declared.rules.Row.{Row}
 use Rattle.asp.specs.Sets.{pick}
-use Rattle.asp.specs.Tables.{is_choice, is_weighted, Row, row_at}
+use Rattle.asp.specs.Tables.{is_choice, is_weighted, row_at}
 use Rattle.counting.specs.declared.counters.Index.{Index}
 use Rattle.counting.specs.Counters.{Counters, first, list_length, raise_from, weigh_number}
 use Rattle.counting.specs.Counts.{broken_many}
@@ -15,7 +16,7 @@ added_of o a y t = raise_list o (pick (eqb y 2) (a * 2) (a * 2 + 1)) (raise_list
 
 -- the number of a rule without conditions; order 2: that of one with a weighted body, by the values
 abbrev pub base_of : List ℤ → List ℕ → Row → ℕ
-base_of pool v w = pick (is_weighted w.a) (weigh_number pool v w) (pick (is_choice w.a) 2 0)
+base_of pool v w = pick (is_weighted w.body) (weigh_number pool v w) (pick (is_choice w.head) 2 0)
 
 -- the first r rules have it
 pub record Based (pool : List ℤ) (rows v key : List ℕ) (broken r : ℕ) : Type 0 where

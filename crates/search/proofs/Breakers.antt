@@ -10,11 +10,12 @@ use lib.Dec.{T, eqb, leb→le, le→leb}
 use lib.IntN.{ℤ, pos, negsuc, nat_abs}
 use mir.Facts.{and_yes, yes_and}
 use borrow.Author.Tests.{eq-eqb, ne_eqb, eqb-true, eqb-false}
+use Rattle.asp.specs.declared.rules.Row.{Row}
 use Rattle.asp.specs.Sets.{In, pick}
 use Rattle.asp.specs.Literal.{same_ℤ, is_negative}
 use Rattle.asp.specs.Program.{Weighed, weighted, RuleIn}
 use Rattle.asp.specs.Stable.{holds}
-use Rattle.asp.specs.Tables.{is_choice, is_weighted, is_mixed, pairs_at, bound_at, head_at, Row, row_at, rule_at, RowIn, Formed}
+use Rattle.asp.specs.Tables.{is_choice, is_weighted, is_mixed, pairs_at, bound_at, head_at, row_at, rule_at, RowIn, Formed}
 use Rattle.asp.proofs.Signed.{clash}
 use Rattle.search.specs.declared.scan.Rest.{Rest}
 use Rattle.search.specs.declared.scan.Rest.TheVariants.{All, One, Off}
@@ -166,22 +167,22 @@ module _ (v : List ℕ) (t : Trail) (w : Valued v t) (f : ℤ) (o : NotOn (nat_a
 module _ (n : ℕ) (pool : List ℤ) (x : Row) (r : RowIn pool x) (i : RuleIn n (rule_at pool x)) (v : List ℕ) (t : Trail) (w : Valued v t) (f : ℤ) (o : NotOn (nat_abs f) t) where
   -- ---- no weighted body
 
-  module _ (u : is_weighted x.a ≡ false) where
-    one_normal : meets v (begins x.a) (conditions pool x) ≡ One f → T (rule_on (decision f ∷ t) (rule_at pool x))
-    one_normal e = go (is_choice x.a) refl e
+  module _ (u : is_weighted x.body ≡ false) where
+    one_normal : meets v (begins x.head) (conditions pool x) ≡ One f → T (rule_on (decision f ∷ t) (rule_at pool x))
+    one_normal e = go (is_choice x.head) refl e
       where
-        go : (b : Bool) → is_choice x.a ≡ b → meets v (pick b Off All) (conditions pool x) ≡ One f → T (rule_on (decision f ∷ t) (rule_at pool x))
+        go : (b : Bool) → is_choice x.head ≡ b → meets v (pick b Off All) (conditions pool x) ≡ One f → T (rule_on (decision f ∷ t) (rule_at pool x))
         go true q e = absurd (not_off v t w f o (conditions pool x) e)
         go false q e = rw (← conds_on (decision f ∷ t) n pool x r i q u) (one_on v t w f o All (conditions pool x) e)
 
     rule_one : T (rule_on (decision f ∷ t) (rule_at pool x)) → rule_on t (rule_at pool x) ≡ false → row_rest pool v x ≡ One f
-    rule_one h k = rw u (go (is_choice x.a) refl)
+    rule_one h k = rw u (go (is_choice x.head) refl)
       where
-        fine : Fine v t w f o (meets v All (conditions pool x)) → is_choice x.a ≡ false → meets v All (conditions pool x) ≡ One f
+        fine : Fine v t w f o (meets v All (conditions pool x)) → is_choice x.head ≡ false → meets v All (conditions pool x) ≡ One f
         fine (inr e) q = e
         fine (inl e) q = absurd (clash (sym k ∙ sym (rule_on_lem v t w n pool x r i) ∙ rw (u, q, e)))
 
-        go : (b : Bool) → is_choice x.a ≡ b → meets v (pick b Off All) (conditions pool x) ≡ One f
+        go : (b : Bool) → is_choice x.head ≡ b → meets v (pick b Off All) (conditions pool x) ≡ One f
         go true q = absurd (rw q at h)
         go false q = fine (on_fine v t w f o All (conditions pool x) (inl refl) (rw (conds_on (decision f ∷ t) n pool x r i q u) h)) q
 
@@ -194,21 +195,21 @@ module _ (n : ℕ) (pool : List ℤ) (x : Row) (r : RowIn pool x) (i : RuleIn n 
       let y = and_yes (lit_on t l) (lits_on t ls) h in
       yes_and (lit_on (decision f ∷ t) l) (lits_on (decision f ∷ t) ls) (rw (more_on t f l (on_apart v t w f o l y.0)) y.0) (lits_more ls y.1)
 
-  module _ (u : is_weighted x.a ≡ true) where
+  module _ (u : is_weighted x.body ≡ true) where
     abbrev pairs : List Weighed
-    pairs = pairs_at pool (x.d + 1) (x.b + x.c) x.d
+    pairs = pairs_at pool (x.literals + 1) (x.first + x.heads) x.literals
 
     head_stays : head_rest pool v x ≡ All → T (head_on (decision f ∷ t) (head_at pool x))
-    head_stays e = go (is_choice x.a) refl e
+    head_stays e = go (is_choice x.head) refl e
       where
-        go : (b : Bool) → is_choice x.a ≡ b → meets v (pick b Off All) (head_conditions pool x) ≡ All → T (head_on (decision f ∷ t) (head_at pool x))
+        go : (b : Bool) → is_choice x.head ≡ b → meets v (pick b Off All) (head_conditions pool x) ≡ All → T (head_on (decision f ∷ t) (head_at pool x))
         go true q e = absurd (let z : ◌≡◌ {A = Rest} Off All = sym (off_stays v (head_conditions pool x)) ∙ e in let y : ◌≡◌ {A = ℕ} 0 1 = cc in omega arith)
         go false q e = rw (← heads_on (decision f ∷ t) n pool x r i q) (lits_more (head_conditions pool x) (rw (← meets_all v t w All (head_conditions pool x), e) tt))
 
     head_one : head_rest pool v x ≡ One f → T (head_on (decision f ∷ t) (head_at pool x))
-    head_one e = go (is_choice x.a) refl e
+    head_one e = go (is_choice x.head) refl e
       where
-        go : (b : Bool) → is_choice x.a ≡ b → meets v (pick b Off All) (head_conditions pool x) ≡ One f → T (head_on (decision f ∷ t) (head_at pool x))
+        go : (b : Bool) → is_choice x.head ≡ b → meets v (pick b Off All) (head_conditions pool x) ≡ One f → T (head_on (decision f ∷ t) (head_at pool x))
         go true q e = absurd (not_off v t w f o (head_conditions pool x) e)
         go false q e = rw (← heads_on (decision f ∷ t) n pool x r i q) (one_on v t w f o All (head_conditions pool x) e)
 
@@ -216,12 +217,12 @@ module _ (n : ℕ) (pool : List ℤ) (x : Row) (r : RowIn pool x) (i : RuleIn n 
     body_on' = T (body_on (decision f ∷ t) (weighted (bound_at pool x) pairs))
 
     body_one' : In n (nat_abs f) → weighted_rest pool v x ≡ One f → body_on'
-    body_one' j e = (body_one n v t w (is_mixed x.a) pairs (row_pairs n pool x i u) (row_signed pool x r u) (bound_at pool x) f e).2
+    body_one' j e = (body_one n v t w (is_mixed x.body) pairs (row_pairs n pool x i u) (row_signed pool x r u) (bound_at pool x) f e).2
 
     body_stays : In n (nat_abs f) → weighted_rest pool v x ≡ All → body_on'
     body_stays j e =
         le→leb (bound_at pool x) (owed (decision f ∷ t) pairs)
-        (omega (arith, owed_rises n t f j o pairs (row_pairs n pool x i u), leb→le (bound_at pool x) (owed t pairs) (rw (← body_all n v t w (is_mixed x.a) pairs (row_pairs n pool x i u) (row_signed pool x r u) (bound_at pool x), e) tt)))
+        (omega (arith, owed_rises n t f j o pairs (row_pairs n pool x i u), leb→le (bound_at pool x) (owed t pairs) (rw (← body_all n v t w (is_mixed x.body) pairs (row_pairs n pool x i u) (row_signed pool x r u) (bound_at pool x), e) tt)))
 
     one_weighted : In n (nat_abs f) → both_rest (head_rest pool v x) (weighted_rest pool v x) ≡ One f → T (rule_on (decision f ∷ t) (rule_at pool x))
     one_weighted j e = rw u (go (head_rest pool v x) refl (weighted_rest pool v x) refl e)
@@ -241,9 +242,9 @@ module _ (n : ℕ) (pool : List ℤ) (x : Row) (r : RowIn pool x) (i : RuleIn n 
         go Off p b q e = absurd (clashes e refl)
 
   one_rule : In n (nat_abs f) → row_rest pool v x ≡ One f → T (rule_on (decision f ∷ t) (rule_at pool x))
-  one_rule j e = go (is_weighted x.a) refl e
+  one_rule j e = go (is_weighted x.body) refl e
     where
-      go : (b : Bool) → is_weighted x.a ≡ b → pick b (both_rest (head_rest pool v x) (weighted_rest pool v x)) (meets v (begins x.a) (conditions pool x)) ≡ One f
+      go : (b : Bool) → is_weighted x.body ≡ b → pick b (both_rest (head_rest pool v x) (weighted_rest pool v x)) (meets v (begins x.head) (conditions pool x)) ≡ One f
           → T (rule_on (decision f ∷ t) (rule_at pool x))
       go true u e = one_weighted u j e
       go false u e = one_normal u e
@@ -292,14 +293,14 @@ module _ (q : ℕ → Rest) where
       go true c = tt
       go false c = let z : r + 1 + k ≡ r + suc k = omega arith in rw z at c
 
-module _ (n : ℕ) (pool : List ℤ) (rows : List ℕ) (count : ℕ) (f : Formed n pool rows count) (v : List ℕ) (t : Trail) (w : Valued v t) (wf : FormedTrail n t) where
+module _ (n : ℕ) (pool : List ℤ) (rows : List Row) (count : ℕ) (f : Formed n pool rows count) (v : List ℕ) (t : Trail) (w : Valued v t) (wf : FormedTrail n t) where
   -- rule r is broken in every set that agrees with the trail and l
   abbrev pub Breaks : ℤ → ℕ → Type 0
   Breaks l r = InAll (decision l ∷ t) (λ M. T (broken_in M (rule_at pool (row_at rows r))))
 
   -- no undecided literal would break rule j, if its body is not weighted (of a weighted body a literal that stands twice may go unnoted)
   abbrev pub NoBreaker : ℕ → Type 0
-  NoBreaker j = is_weighted (row_at rows j).a ≡ false → (l : ℤ) → In n (nat_abs l) → NotOn (nat_abs l) t → ¬ Breaks l j
+  NoBreaker j = is_weighted (row_at rows j).body ≡ false → (l : ℤ) → In n (nat_abs l) → NotOn (nat_abs l) t → ¬ Breaks l j
 
   abbrev pub NotedSays : Found → Type 0
   NotedSays (Broken r) = Unit {0}

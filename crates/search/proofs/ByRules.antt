@@ -8,12 +8,13 @@ use native.Mathlib.Omega.{arith}
 use lib.IntN.{ℤ, pos, neg_ℤ}
 use lib.ListN.{get_or}
 use borrow.Author.Tests.{lt-ltb, le-ltb}
+use Rattle.asp.specs.declared.rules.Row.{Row}
 use Rattle.asp.specs.Sets.{pick}
 use Rattle.asp.specs.Literal.{one_signed}
 use Rattle.search.specs.Weigh.{literals_of, body_rest, both_rest}
 use Rattle.search.proofs.WeighLaws.{row_literals}
 use Rattle.asp.specs.Program.{Literal, Weighed, Body, normal, weighted, Head, constraint, plain, choice, Rule, RuleIn}
-use Rattle.asp.specs.Tables.{span, literals_at, named, atoms_at, is_choice, is_weighted, is_mixed, pairs_at, bound_at, Row, row_at, plain_head, rule_at, rules_of, RowIn, Formed}
+use Rattle.asp.specs.Tables.{span, literals_at, named, atoms_at, is_choice, is_weighted, is_mixed, pairs_at, bound_at, row_at, plain_head, rule_at, rules_of, RowIn, Formed}
 use Rattle.search.specs.declared.scan.Rest.{Rest}
 use Rattle.search.specs.declared.scan.Rest.TheVariants.{All, Off}
 use Rattle.search.specs.declared.scan.Found.{Found}
@@ -69,24 +70,24 @@ head_rest_lem v pool b (suc (suc c)) w ps l h = absurd (omega arith)
 
 module _ (n : ℕ) (v : List ℕ) (pool : List ℤ) (x : Row) (r : RowIn pool x) (i : RuleIn n (rule_at pool x)) where
   abbrev pairs : List Weighed
-  pairs = pairs_at pool (x.d + 1) (x.b + x.c) x.d
+  pairs = pairs_at pool (x.literals + 1) (x.first + x.heads) x.literals
 
   abbrev heads : Bool → Head
-  heads b = pick b (choice (atoms_at pool x.b x.c)) (plain_head (atoms_at pool x.b x.c))
+  heads b = pick b (choice (atoms_at pool x.first x.heads)) (plain_head (atoms_at pool x.first x.heads))
 
-  mixed_is : is_weighted x.a ≡ true → is_mixed x.a ≡ not (one_signed (literals_of pairs))
-  mixed_is e = r.signed e ∙ ap (λ (ls : List Literal). not (one_signed ls)) (sym (row_literals pool (x.d + 1) (x.b + x.c) x.d))
+  mixed_is : is_weighted x.body ≡ true → is_mixed x.body ≡ not (one_signed (literals_of pairs))
+  mixed_is e = r.signed e ∙ ap (λ (ls : List Literal). not (one_signed ls)) (sym (row_literals pool (x.literals + 1) (x.first + x.heads) x.literals))
 
   row_rest_lem : row_rest pool v x ≡ rest_in v (rule_at pool x)
-  row_rest_lem = go (is_weighted x.a) refl (is_choice x.a) refl
+  row_rest_lem = go (is_weighted x.body) refl (is_choice x.head) refl
     where
-      go : (a : Bool) → is_weighted x.a ≡ a → (b : Bool) → is_choice x.a ≡ b
+      go : (a : Bool) → is_weighted x.body ≡ a → (b : Bool) → is_choice x.head ≡ b
           → pick a (both_rest (meets v (pick b Off All) (head_conditions pool x)) (weighted_rest pool v x)) (meets v (pick b Off All) (conditions pool x))
-          ≡ rest_by v (heads b) (pick a (weighted (bound_at pool x) pairs) (normal (literals_at pool (x.b + x.c) x.d)))
+          ≡ rest_by v (heads b) (pick a (weighted (bound_at pool x) pairs) (normal (literals_at pool (x.first + x.heads) x.literals)))
       go true q true e = rw (off_stays v (head_conditions pool x))
-      go true q false e = rw (mixed_is q) (head_rest_lem v pool x.b x.c (bound_at pool x) pairs (r.single e) (plain_head_lem n pool x r i e))
+      go true q false e = rw (mixed_is q) (head_rest_lem v pool x.first x.heads (bound_at pool x) pairs (r.single e) (plain_head_lem n pool x r i e))
       go false q true e = off_stays v (conditions pool x)
-      go false q false e = plain_rest v pool x.b x.c x.d (r.single e) (plain_head_lem n pool x r i e)
+      go false q false e = plain_rest v pool x.first x.heads x.literals (r.single e) (plain_head_lem n pool x r i e)
 
 -- ---- the rules
 
@@ -95,7 +96,7 @@ unfoldable pub scan_rules : List ℕ → Found → ℕ → List Rule → Found
 scan_rules v a r [] = a
 scan_rules v a r (x ∷ xs) = pick (is_all (rest_in v x)) (Broken r) (scan_rules v (note_of a (rest_in v x)) (r + 1) xs)
 
-module _ (n : ℕ) (pool : List ℤ) (rows : List ℕ) (count : ℕ) (f : Formed n pool rows count) (v : List ℕ) where
+module _ (n : ℕ) (pool : List ℤ) (rows : List Row) (count : ℕ) (f : Formed n pool rows count) (v : List ℕ) where
   from_rules : (a : Found) (i k : ℕ) → i + k ≤ count
       → scan_from (rest_of (rules pool rows count) v) a i k ≡ scan_rules v a i (span (λ (r : ℕ). rule_at pool (row_at rows r)) i k)
   unfolding scan_from scan_rules span
@@ -107,6 +108,6 @@ module _ (n : ℕ) (pool : List ℤ) (rows : List ℕ) (count : ℕ) (f : Formed
   scan_rules_lem = from_rules Clear 0 count (omega arith)
 
 -- TABLES WITH THE SAME RULES ARE SCANNED ALIKE
-pub scan_same : (n m : ℕ) (pool pool' : List ℤ) (rows rows' : List ℕ) (count count' : ℕ) → Formed n pool rows count → Formed m pool' rows' count'
+pub scan_same : (n m : ℕ) (pool pool' : List ℤ) (rows rows' : List Row) (count count' : ℕ) → Formed n pool rows count → Formed m pool' rows' count'
     → rules_of pool rows count ≡ rules_of pool' rows' count' → (v : List ℕ) → scan_of (rules pool rows count) v ≡ scan_of (rules pool' rows' count') v
 scan_same n m pool pool' rows rows' count count' f g e v = scan_rules_lem n pool rows count f v ∙ ap (scan_rules v Clear 0) e ∙ sym (scan_rules_lem m pool' rows' count' g v)

@@ -8,11 +8,12 @@ use lib.Dec.{eqb}
 use lib.IntN.{ℤ, pos, negsuc, neg_ℤ, nat_abs}
 use lib.ListN.{get_or}
 use borrow.Author.Tests.{lt-ltb, le-ltb, eqb-true}
+use Rattle.asp.specs.declared.rules.Row.{Row}
 use Rattle.asp.specs.Sets.{Set, pick}
 use Rattle.asp.specs.Literal.{same_ℤ, is_negative}
 use Rattle.asp.specs.Program.{RuleIn}
 use Rattle.asp.specs.Stable.{holds}
-use Rattle.asp.specs.Tables.{span, literals_at, named, atoms_at, is_choice, is_weighted, Row, plain_head, head_at, rule_at, RowIn}
+use Rattle.asp.specs.Tables.{span, literals_at, named, atoms_at, is_choice, is_weighted, plain_head, head_at, rule_at, RowIn}
 use Rattle.asp.proofs.Signed.{abs_neg, clash}
 use Rattle.search.specs.declared.scan.Rest.{Rest}
 use Rattle.search.specs.declared.scan.Rest.TheVariants.{All, One, Off}
@@ -104,13 +105,13 @@ module _ (t : Trail) where
       and_yes_true false = refl
   head_on_lem pool b (suc (suc c)) l h = absurd (omega arith)
 
-  pub heads_on : (n : ℕ) (pool : List ℤ) (x : Row) → RowIn pool x → RuleIn n (rule_at pool x) → is_choice x.a ≡ false → lits_on t (head_conditions pool x) ≡ head_on t (head_at pool x)
-  heads_on n pool x r i e = rw e (head_on_lem pool x.b x.c (r.single e) (plain_head_lem n pool x r i e))
+  pub heads_on : (n : ℕ) (pool : List ℤ) (x : Row) → RowIn pool x → RuleIn n (rule_at pool x) → is_choice x.head ≡ false → lits_on t (head_conditions pool x) ≡ head_on t (head_at pool x)
+  heads_on n pool x r i e = rw e (head_on_lem pool x.first x.heads (r.single e) (plain_head_lem n pool x r i e))
 
   -- the conditions of a rule that is no choice
-  pub conds_on : (n : ℕ) (pool : List ℤ) (x : Row) → RowIn pool x → RuleIn n (rule_at pool x) → is_choice x.a ≡ false → is_weighted x.a ≡ false
+  pub conds_on : (n : ℕ) (pool : List ℤ) (x : Row) → RowIn pool x → RuleIn n (rule_at pool x) → is_choice x.head ≡ false → is_weighted x.body ≡ false
       → lits_on t (conditions pool x) ≡ rule_on t (rule_at pool x)
-  conds_on n pool x r i e q = rw (e, q) (plain_on pool x.b x.c x.d (r.single e) (plain_head_lem n pool x r i e))
+  conds_on n pool x r i e q = rw (e, q) (plain_on pool x.first x.heads x.literals (r.single e) (plain_head_lem n pool x r i e))
 
 module _ (v : List ℕ) (t : Trail) (w : Valued v t) where
   pub true_on : (l : ℤ) → eqb (truth_at v l) 1 ≡ lit_on t l

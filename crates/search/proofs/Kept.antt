@@ -3,6 +3,7 @@ use mathlib.Core.Path.{◌≡◌, ap}
 use mathlib.Core.List.{List}
 use Prim.Native.Nat.{ℕ}
 use lib.IntN.{ℤ}
+use Rattle.asp.specs.declared.rules.Row.{Row}
 use Rattle.asp.specs.Tables.{Formed}
 use Rattle.search.specs.declared.step.Tested.{Tested}
 use Rattle.search.specs.declared.trail.Places.{Places}
@@ -24,6 +25,6 @@ after_back n t e d = rw e (back_sound n t d)
 
 -- ---- after `step`
 
-module _ (pool : List ℤ) (rows : List ℕ) (rulecount n : ℕ) (s : AssumedEntries) (t : Places) {x : Tested} where
+module _ (pool : List ℤ) (rows : List Row) (rulecount n : ℕ) (s : AssumedEntries) (t : Places) {x : Tested} where
   pub after_step : Formed n pool rows rulecount → FormedSoft n s → SoundTrail n t → {t₁ : Places} → stepped x t₁ ≡ step_of (rules pool rows rulecount) n s t → SoundTrail n t₁
   after_step f q d e = rw (ap (λ (y : Stepped). y.trail) e) (step_sound n pool rows rulecount f s q t d)

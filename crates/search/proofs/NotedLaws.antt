@@ -8,6 +8,7 @@ use lib.Dec.{eqb, leb}
 use lib.IntN.{ℤ, pos, nat_abs}
 use lib.ListN.{get_or}
 use borrow.Author.Tests.{eqb-true, le-ltb}
+use Rattle.asp.specs.declared.rules.HeadKind.{HeadKind}
 use Rattle.asp.specs.Sets.{pick}
 use Rattle.asp.specs.Literal.{same_ℤ}
 use Rattle.asp.specs.Program.{Weighed}
@@ -69,7 +70,7 @@ module _ (P : ℤ → Type 0) where
   from_noted p a r (suc n) h q =
       pick_noted (is_all (p r)) (Broken r) _ tt (from_noted p (note_of a (p r)) (r + 1) n (λ i b. h i (omega arith)) (note_alone a (p r) q (h r (omega arith))))
 
-  begins_alone : (k : ℕ) → Alone (begins k)
+  begins_alone : (k : HeadKind) → Alone (begins k)
   begins_alone k = pick_alone (is_choice k) Off All tt tt
 
   -- order 2: a weighted body, and a head with it
@@ -99,20 +100,20 @@ module _ (P : ℤ → Type 0) where
   both_alone Off s p q = tt
 
   pub noted_as : (g : Rules) (v : List ℕ)
-      → ((r : ℕ) → r < g.count → (k : ℕ) → (row_of g r).b ≤ k → k < (row_of g r).b + (row_of g r).c + (row_of g r).d → truth_at v (cond_at g.pool ((row_of g r).b + (row_of g r).c) k) ≡ 0 → P (cond_at g.pool ((row_of g r).b + (row_of g r).c) k))
+      → ((r : ℕ) → r < g.count → (k : ℕ) → (row_of g r).first ≤ k → k < (row_of g r).first + (row_of g r).heads + (row_of g r).literals → truth_at v (cond_at g.pool ((row_of g r).first + (row_of g r).heads) k) ≡ 0 → P (cond_at g.pool ((row_of g r).first + (row_of g r).heads) k))
       → NotedAs P (scan_of g v)
   noted_as g v h =
       from_noted (rest_of g v) Clear 0 g.count
-      (λ r b. pick_alone (is_weighted (row_of g r).a) _ _
+      (λ r b. pick_alone (is_weighted (row_of g r).body) _ _
       (both_alone (head_rest g.pool v (row_of g r)) (weighted_rest g.pool v (row_of g r))
-      (meets_alone v g.pool (begins (row_of g r).a) ((row_of g r).b + (row_of g r).c) (row_of g r).b (row_of g r).c (λ k x y. h r (omega arith) k x (omega arith)) (begins_alone (row_of g r).a))
-      (body_alone (is_mixed (row_of g r).a) v (bound_at g.pool (row_of g r)) g.pool ((row_of g r).d + 1) ((row_of g r).b + (row_of g r).c) (row_of g r).d
-      (λ k x y z. let e : cond_at g.pool ((row_of g r).b + (row_of g r).c) k ≡ get_or g.pool k (pos 0) = rw (le-ltb k ((row_of g r).b + (row_of g r).c) x) in rw e at (h r (omega arith) k (omega arith) (omega arith) (rw e z)))))
-      (meets_alone v g.pool (begins (row_of g r).a) ((row_of g r).b + (row_of g r).c) (row_of g r).b ((row_of g r).c + (row_of g r).d) (λ k x y. h r (omega arith) k x (omega arith)) (begins_alone (row_of g r).a)))
+      (meets_alone v g.pool (begins (row_of g r).head) ((row_of g r).first + (row_of g r).heads) (row_of g r).first (row_of g r).heads (λ k x y. h r (omega arith) k x (omega arith)) (begins_alone (row_of g r).head))
+      (body_alone (is_mixed (row_of g r).body) v (bound_at g.pool (row_of g r)) g.pool ((row_of g r).literals + 1) ((row_of g r).first + (row_of g r).heads) (row_of g r).literals
+      (λ k x y z. let e : cond_at g.pool ((row_of g r).first + (row_of g r).heads) k ≡ get_or g.pool k (pos 0) = rw (le-ltb k ((row_of g r).first + (row_of g r).heads) x) in rw e at (h r (omega arith) k (omega arith) (omega arith) (rw e z)))))
+      (meets_alone v g.pool (begins (row_of g r).head) ((row_of g r).first + (row_of g r).heads) (row_of g r).first ((row_of g r).heads + (row_of g r).literals) (λ k x y. h r (omega arith) k x (omega arith)) (begins_alone (row_of g r).head)))
       tt
 
 pub noted : (g : Rules) (v : List ℕ) → Readable g → Noted (scan_of g v)
-noted g v f = noted_as (λ l. nat_abs l ≤ 1024) g v (λ r b k x y z. cond_small g.pool ((row_of g r).b + (row_of g r).c) k (f.small r b k x y))
+noted g v f = noted_as (λ l. nat_abs l ≤ 1024) g v (λ r b k x y z. cond_small g.pool ((row_of g r).first + (row_of g r).heads) k (f.small r b k x y))
 
 -- the same, as a caller of `scan` knows it
 pub found_noted : (g : Rules) (v : List ℕ) {f : Found} → f ≡ scan_of g v → Readable g → Noted f

@@ -9,6 +9,7 @@ use lib.Dec.{T, eqb, ltb}
 use lib.IntN.{ℤ, pos, neg_ℤ, nat_abs}
 use lib.ListN.{length, get_or}
 use borrow.Author.Tests.{eqb-true, eqb-false}
+use Rattle.asp.specs.declared.rules.Row.{Row}
 use Rattle.asp.specs.Sets.{Set, In, pick}
 use Rattle.asp.specs.Literal.{is_negative}
 use Rattle.asp.specs.Tables.{Formed}
@@ -110,11 +111,11 @@ cond_in : (n : ℕ) (b : Bool) (z : ℤ) → In n (nat_abs z) → In n (nat_abs 
 cond_in n true z h = rw abs_neg h
 cond_in n false z h = h
 
-module _ (n : ℕ) (pool : List ℤ) (rows : List ℕ) (count : ℕ) (f : Formed n pool rows count) (s : AssumedEntries) (q : FormedSoft n s) (v : List ℕ) where
+module _ (n : ℕ) (pool : List ℤ) (rows : List Row) (count : ℕ) (f : Formed n pool rows count) (s : AssumedEntries) (q : FormedSoft n s) (v : List ℕ) where
   pub scan_undecided : NotedAs (Undecided n v) (scan_of (rules pool rows count) v)
   scan_undecided = noted_as (Undecided n v) (rules pool rows count) v (λ r b k x y z.
       let g : Rules = rules pool rows count in
-      (cond_in n (ltb k ((row_of g r).b + (row_of g r).c)) (get_or pool k (pos 0)) (atom_in_lem n pool rows count f r b k x y), truth_zero (cond_at pool ((row_of g r).b + (row_of g r).c) k) _ z))
+      (cond_in n (ltb k ((row_of g r).first + (row_of g r).heads)) (get_or pool k (pos 0)) (atom_in_lem n pool rows count f r b k x y), truth_zero (cond_at pool ((row_of g r).first + (row_of g r).heads) k) _ z))
 
   free_undecided : (t : Trail) → Valued v t → length t < n → Undecided n v (free_branch s.first s.wished s.count v n)
   free_undecided t w h =

@@ -1,4 +1,5 @@
 -- The ways that a test and a step go, from what their calls say. Assumes nothing.
+use Rattle.std.specs.Prelude.{Option, Some, None}
 use mathlib.Core.Path.{◌≡◌, refl, sym, ◌∙◌}
 use mathlib.Core.Bool.{Bool, true, false}
 use mathlib.Core.List.{List}
@@ -11,15 +12,12 @@ use mir.Syntax.{w32}
 use mir.Val.{to_z, of_z}
 use mir.Facts.{to_z-of_z}
 use borrow.Author.Tests.{le-leb, lt-leb, leb-true, leb-false, eqb-true}
+use Rattle.asp.specs.declared.rules.Row.{Row}
 use Rattle.asp.specs.Sets.{Set, pick}
 use Rattle.asp.specs.Tables.{Formed}
 use Rattle.asp.proofs.Signed.{abs_neg, small_fits}
 use Rattle.search.specs.declared.scan.Found.{Found}
 use Rattle.search.specs.declared.scan.Found.TheVariants.{Broken, Breaker, Clear}
-use Rattle.search.specs.declared.soft.Violation.{Violation}
-use Rattle.search.specs.declared.soft.Violation.TheVariants.{At, Unviolated}
-use Rattle.search.specs.declared.soft.Wish.{Wish}
-use Rattle.search.specs.declared.soft.Wish.TheVariants.{For, Decided}
 use Rattle.search.specs.declared.step.Tested.{Tested}
 use Rattle.search.specs.declared.step.Tested.TheVariants.{RuleBroken, Full, SoftViolated, Open}
 use Rattle.search.specs.declared.trail.Places.{Places}
@@ -36,22 +34,22 @@ use lib.Dec.{eqb}
 -- ---- the literal to branch on is of an atom up to 1,024
 
 -- P holds of the wished literal, if there is one
-abbrev WishAs : (ℤ → Type 0) → Wish → Type 0
-WishAs P (For l) = P l
-WishAs P Decided = Unit {0}
+abbrev WishAs : (ℤ → Type 0) → Option ℤ → Type 0
+WishAs P (Some l) = P l
+WishAs P None = Unit {0}
 
 pub wish_as : (P : ℤ → Type 0) (w : List ℤ) (v : List ℕ) (i k : ℕ) → ((j : ℕ) → i ≤ j → j < i + k → truth_at v (get_or w j (pos 0)) ≡ 0 → P (get_or w j (pos 0))) → WishAs P (wish_from w v i k)
 unfolding wish_from
 wish_as P w v i zero h = tt
 wish_as P w v i (suc k) h = go (eqb (truth_at v (get_or w i (pos 0))) 0) refl (wish_as P w v (i + 1) k (λ j a b. h j (omega arith) (omega arith)))
   where
-    go : (b : Bool) → eqb (truth_at v (get_or w i (pos 0))) 0 ≡ b → WishAs P (wish_from w v (i + 1) k) → WishAs P (pick b (For (get_or w i (pos 0))) (wish_from w v (i + 1) k))
+    go : (b : Bool) → eqb (truth_at v (get_or w i (pos 0))) 0 ≡ b → WishAs P (wish_from w v (i + 1) k) → WishAs P (pick b (Some (get_or w i (pos 0))) (wish_from w v (i + 1) k))
     go true e r = h i (omega arith) (omega arith) (eqb-true (truth_at v (get_or w i (pos 0))) 0 e)
     go false e r = r
 
-pub wished_or_as : (P : ℤ → Type 0) (l : ℤ) (x : Wish) → P l → WishAs P x → P (wished_or l x)
-wished_or_as P l (For w) p q = q
-wished_or_as P l Decided p q = p
+pub wished_or_as : (P : ℤ → Type 0) (l : ℤ) (x : Option ℤ) → P l → WishAs P x → P (wished_or l x)
+wished_or_as P l (Some w) p q = q
+wished_or_as P l None p q = p
 
 -- in or out, the literal is of the same atom
 pub free_as : (P : ℕ → Type 0) (b : Bool) (a : ℕ) → P a → P (nat_abs (pick b (pos a) (neg_ℤ (pos a))))
@@ -75,16 +73,16 @@ module _ (n : ℕ) (s : AssumedEntries) (v : List ℕ) (len : ℕ) (f : Found) w
   unfolding unbroken
   test_full h = rw (le-leb n len h)
 
-  pub test_violated : len < n → {x : Violation} {i : ℕ} → x ≡ violated_of s v → x ≡ At i → SoftViolated i ≡ unbroken n s v len f
+  pub test_violated : len < n → {x : Option ℕ} {i : ℕ} → x ≡ violated_of s v → x ≡ Some i → SoftViolated i ≡ unbroken n s v len f
   unfolding unbroken
   test_violated h e q = rw (lt-leb n len h, ← e, q)
 
-  test_is_open : len < n → {x : Violation} → x ≡ violated_of s v → x ≡ Unviolated → Open (branch_of s.first s.wished s.count v n f) ≡ unbroken n s v len f
+  test_is_open : len < n → {x : Option ℕ} → x ≡ violated_of s v → x ≡ None → Open (branch_of s.first s.wished s.count v n f) ≡ unbroken n s v len f
   unfolding unbroken
   test_is_open h e q = rw (lt-leb n len h, ← e, q)
 
   -- the literal comes from a call as its bits, read back
-  pub test_open : len < n → n ≤ 1024 → ReadableSoft s → Noted f → {x : Violation} → x ≡ violated_of s v → x ≡ Unviolated
+  pub test_open : len < n → n ≤ 1024 → ReadableSoft s → Noted f → {x : Option ℕ} → x ≡ violated_of s v → x ≡ None
       → {l : ℤ} → l ≡ branch_of s.first s.wished s.count v n f → Open (to_z w32 (of_z w32 l)) ≡ unbroken n s v len f
   test_open h m r p e q z =
       rw (z, to_z-of_z (small_fits (branch_of s.first s.wished s.count v n f) (branch_small s.first s.wished s.count v n f r.wishes (omega arith) m p))) (test_is_open h e q)
@@ -100,17 +98,17 @@ NotBroken Clear = Unit {0}
 abbrev pub Told : ℕ → AssumedEntries → List ℕ → ℕ → Found → Tested → Type 0
 Told n s v len f (RuleBroken r) = f ≡ Broken r
 Told n s v len f Full = NotBroken f × (n ≤ len)
-Told n s v len f (SoftViolated i) = NotBroken f × (len < n) × (violated_of s v ≡ At i)
-Told n s v len f (Open l) = NotBroken f × (len < n) × (violated_of s v ≡ Unviolated) × (l ≡ branch_of s.first s.wished s.count v n f)
+Told n s v len f (SoftViolated i) = NotBroken f × (len < n) × (violated_of s v ≡ Some i)
+Told n s v len f (Open l) = NotBroken f × (len < n) × (violated_of s v ≡ None) × (l ≡ branch_of s.first s.wished s.count v n f)
 
 told_unbroken : (n : ℕ) (s : AssumedEntries) (v : List ℕ) (len : ℕ) (f : Found) → NotBroken f → Told n s v len f (unbroken n s v len f)
 unfolding unbroken
 told_unbroken n s v len f b = go (leb n len) refl (violated_of s v) refl
   where
-    go : (y : Bool) → leb n len ≡ y → (x : Violation) → violated_of s v ≡ x → Told n s v len f (pick y Full (open_or (branch_of s.first s.wished s.count v n f) x))
+    go : (y : Bool) → leb n len ≡ y → (x : Option ℕ) → violated_of s v ≡ x → Told n s v len f (pick y Full (open_or (branch_of s.first s.wished s.count v n f) x))
     go true e x q = (b, leb-true n len e)
-    go false e (At i) q = (b, leb-false n len e, q)
-    go false e Unviolated q = (b, leb-false n len e, q, refl)
+    go false e (Some i) q = (b, leb-false n len e, q)
+    go false e None q = (b, leb-false n len e, q, refl)
 
 told_by : (n : ℕ) (s : AssumedEntries) (v : List ℕ) (len : ℕ) (f : Found) → Told n s v len f (test_by n s v len f)
 told_by n s v len (Broken r) = refl
@@ -121,7 +119,7 @@ pub told : (g : Rules) (n : ℕ) (s : AssumedEntries) (v : List ℕ) (len : ℕ)
 told g n s v len = told_by n s v len (scan_of g v)
 
 module _ (g : Rules) (n : ℕ) (s : AssumedEntries) (v : List ℕ) (len : ℕ) {x : Tested} where
-  opened : x ≡ test_of g n s v len → {l : ℤ} → x ≡ Open l → NotBroken (scan_of g v) × (len < n) × (violated_of s v ≡ Unviolated) × (l ≡ branch_of s.first s.wished s.count v n (scan_of g v))
+  opened : x ≡ test_of g n s v len → {l : ℤ} → x ≡ Open l → NotBroken (scan_of g v) × (len < n) × (violated_of s v ≡ None) × (l ≡ branch_of s.first s.wished s.count v n (scan_of g v))
   opened e q = rw (sym e ∙ q) at (told g n s v len)
 
   open_short : x ≡ test_of g n s v len → {l : ℤ} → x ≡ Open l → n ≤ 1024 → len < 1024
@@ -131,7 +129,7 @@ module _ (g : Rules) (n : ℕ) (s : AssumedEntries) (v : List ℕ) (len : ℕ) {
   open_in e q h r f = let o = opened e q in rw o.3 (branch_small s.first s.wished s.count v n (scan_of g v) f.wishes (omega (arith, o.1)) h (noted g v r))
 
 -- what a push asks; the literal comes from a call as its bits, read back
-module _ (pool : List ℤ) (rows : List ℕ) (count n : ℕ) (s : AssumedEntries) (v : List ℕ) (len : ℕ) {x : Tested} {l : ℤ} where
+module _ (pool : List ℤ) (rows : List Row) (count n : ℕ) (s : AssumedEntries) (v : List ℕ) (len : ℕ) {x : Tested} {l : ℤ} where
   pub open_room : Formed n pool rows count → x ≡ test_of (rules pool rows count) n s v len → x ≡ Open l → len < 1024
   open_room f e q = open_short (rules pool rows count) n s v len e q f.few
 
@@ -156,6 +154,6 @@ module _ (g : Rules) (n : ℕ) (s : AssumedEntries) (t : Places) {x : Tested} wh
   pub step_violated : x ≡ test_of g n s t.value t.len → {i : ℕ} → x ≡ SoftViolated i → {t₁ : Places} → t₁ ≡ back_of t → stepped x t₁ ≡ step_of g n s t
   step_violated e q z = rw (← e, q, z)
 
-pub step_open : (pool : List ℤ) (rows : List ℕ) (count n : ℕ) (s : AssumedEntries) (t : Places) {x : Tested} {l : ℤ} → Formed n pool rows count → FormedSoft n s
+pub step_open : (pool : List ℤ) (rows : List Row) (count n : ℕ) (s : AssumedEntries) (t : Places) {x : Tested} {l : ℤ} → Formed n pool rows count → FormedSoft n s
     → x ≡ test_of (rules pool rows count) n s t.value t.len → x ≡ Open l → {t₁ : Places} → t₁ ≡ push_of (to_z w32 (of_z w32 l)) t → stepped (Open l) t₁ ≡ step_of (rules pool rows count) n s t
 step_open pool rows count n s t {l = l} f w e q z = rw (sym e ∙ q, z, open_same pool rows count n s t.value t.len f w e q)

@@ -1,5 +1,6 @@
 -- The test on the tables is document 01's, and right for the theory of `Search`; a step on the tables is a step of the machine over trails, and the tables go on
 -- to say a trail. Assumes nothing.
+use Rattle.std.specs.declared.option.Option.TheVariants as option
 use mathlib.Core.Path.{◌≡◌, refl, sym, ap, ◌∙◌, subst, fun_ext}
 use mathlib.Core.Bool.{Bool, true, false, not}
 use mathlib.Core.List.{List, [], ◌∷◌}
@@ -13,6 +14,7 @@ use lib.ListN.{length, get_or, replicate, length-replicate}
 use mir.Facts.{T_not}
 use borrow.Author.Tests.{eq-eqb, ne_eqb, eqb-true, eqb-false}
 use lib.Seq.{ext_get_or}
+use Rattle.asp.specs.declared.rules.Row.{Row}
 use Rattle.asp.specs.Sets.{Set, In, Only, pick, set_of}
 use Rattle.asp.specs.Literal.{is_negative}
 use Rattle.asp.specs.Program.{Rule, All}
@@ -20,7 +22,6 @@ use Rattle.asp.specs.Stable.{holds}
 use Rattle.asp.specs.Tables.{span, literals_at, row_at, rule_at, rules_of, Formed}
 use Rattle.search.specs.declared.scan.Found.{Found}
 use Rattle.search.specs.declared.scan.Found.TheVariants.{Broken, Breaker, Clear}
-use Rattle.search.specs.declared.soft.Violation.TheVariants.{At}
 use Rattle.search.specs.declared.step.Tested.{Tested}
 use Rattle.search.specs.declared.step.Tested.TheVariants.{RuleBroken, Full, SoftViolated, Open}
 use Rattle.search.specs.Trail.{decision, Trail, literal_of, NotOn, FormedTrail, Agrees, InAll, trail_set, flip}
@@ -183,7 +184,7 @@ module _ (n : ℕ) (t : Places) (d : SoundTrail n t) where
 
 -- ---- the test
 
-module _ (n : ℕ) (pool : List ℤ) (rows : List ℕ) (count : ℕ) (f : Formed n pool rows count) (s : AssumedEntries) (q : FormedSoft n s) (t : Places) (d : SoundTrail n t) where
+module _ (n : ℕ) (pool : List ℤ) (rows : List Row) (count : ℕ) (f : Formed n pool rows count) (s : AssumedEntries) (q : FormedSoft n s) (t : Places) (d : SoundTrail n t) where
   abbrev g : Rules
   g = rules pool rows count
 
@@ -231,9 +232,9 @@ module _ (n : ℕ) (pool : List ℤ) (rows : List ℕ) (count : ℕ) (f : Formed
       let l : r.0 < s.count = omega (arith, r.2) in
       no (soft_on u (wished_at s r.0)) (h r.0 l) (all_soft n u d.formed (wished_at s r.0) (q.atoms r.0 l).0 r.3)
 
-  violated_fails : (i : ℕ) → violated_of s t.value ≡ At i → (i < s.count) × InAll u (λ M. T (violated_in M (wished_at s i)))
+  violated_fails : (i : ℕ) → violated_of s t.value ≡ option.Some i → (i < s.count) × InAll u (λ M. T (violated_in M (wished_at s i)))
   violated_fails i e =
-      let z : ViolatedSays (λ (j : ℕ). soft_on u (wished_at s j)) (λ (j : ℕ). eqb (get_or s.blamed j 0) 1) s.count (At i) = rw e at viewed in
+      let z : ViolatedSays (λ (j : ℕ). soft_on u (wished_at s j)) (λ (j : ℕ). eqb (get_or s.blamed j 0) 1) s.count (option.Some i) = rw e at viewed in
       (z.0, soft_all u (wished_at s i) (q.atoms i z.0).0 (yes (soft_on u (wished_at s i)) z.1))
 
   branches : t.len < n → Undecided n t.value (branch_of s.first s.wished s.count t.value n (scan_of g t.value))

@@ -10,12 +10,13 @@ use lib.Dec.{T, eqb, leb, leb→le, le→leb}
 use lib.IntN.{ℤ, pos, negsuc, neg_ℤ, nat_abs, neg_ℤ-neg_ℤ}
 use mir.Facts.{and_yes}
 use borrow.Author.Tests.{eq-eqb, eqb-true}
+use Rattle.asp.specs.declared.rules.Row.{Row}
 use Rattle.asp.specs.Sets.{pick}
 use Rattle.asp.specs.Literal.{same_ℤ, one_signed}
 use Rattle.asp.specs.Program.{Weighed, weighted, LiteralIn, RuleIn}
 use Rattle.asp.specs.Stable.{holds}
-use Rattle.asp.specs.Tables.{literals_at, is_weighted, is_mixed, pair_at, pairs_at, Row, rule_at, RowIn}
-use Rattle.asp.proofs.Pairs.{body_weighted}
+use Rattle.asp.specs.Tables.{literals_at, is_weighted, is_mixed, pair_at, pairs_at, rule_at, RowIn}
+use Rattle.asp.proofs.RowLaws.{body_weighted}
 use Rattle.asp.proofs.Spans.{map_span}
 use Rattle.asp.proofs.Signed.{clash}
 use Rattle.search.specs.declared.scan.Rest.{Rest}
@@ -206,15 +207,15 @@ both_all Off s = refl
 
 -- ---- the pairs of a row
 
-pub row_pairs : (n : ℕ) (pool : List ℤ) (x : Row) → RuleIn n (rule_at pool x) → is_weighted x.a ≡ true → PairsIn n (pairs_at pool (x.d + 1) (x.b + x.c) x.d)
+pub row_pairs : (n : ℕ) (pool : List ℤ) (x : Row) → RuleIn n (rule_at pool x) → is_weighted x.body ≡ true → PairsIn n (pairs_at pool (x.literals + 1) (x.first + x.heads) x.literals)
 row_pairs n pool x i e = rw (body_weighted pool x e) at i.1
 
 pub row_literals : (pool : List ℤ) (gap i k : ℕ) → literals_of (pairs_at pool gap i k) ≡ literals_at pool i k
 row_literals pool gap i k = map_span (λ (p : Weighed). p.literal) (pair_at pool gap) i k
 
-pub row_signed : (pool : List ℤ) (x : Row) → RowIn pool x → is_weighted x.a ≡ true → is_mixed x.a ≡ false → T (unmixed (pairs_at pool (x.d + 1) (x.b + x.c) x.d))
+pub row_signed : (pool : List ℤ) (x : Row) → RowIn pool x → is_weighted x.body ≡ true → is_mixed x.body ≡ false → T (unmixed (pairs_at pool (x.literals + 1) (x.first + x.heads) x.literals))
 row_signed pool x r e f =
-    signed_unmixed (pairs_at pool (x.d + 1) (x.b + x.c) x.d) (rw (row_literals pool (x.d + 1) (x.b + x.c) x.d) (unflip (one_signed (literals_at pool (x.b + x.c) x.d)) (sym (r.signed e) ∙ f)))
+    signed_unmixed (pairs_at pool (x.literals + 1) (x.first + x.heads) x.literals) (rw (row_literals pool (x.literals + 1) (x.first + x.heads) x.literals) (unflip (one_signed (literals_at pool (x.first + x.heads) x.literals)) (sym (r.signed e) ∙ f)))
   where
     unflip : (b : Bool) → not b ≡ false → T b
     unflip true q = tt

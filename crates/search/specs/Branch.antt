@@ -1,13 +1,11 @@
 -- Branching, which document 01 leaves free (docs/DECISIONS.md says why this one): the complement of the literal that would break a rule, if the scan noted one; else the
 -- wished literal of the first assumed soft literal of an entry whose atom is undecided; else the lowest undecided atom, in if it is one to try in first, else out.
 -- Assumes nothing: these are definitions.
-use Rattle.std.specs.Prelude.{◌≡◌, List, ℕ, zero, suc, ◌+◌, ◌-◌, ◌≤◌, ◌<◌, eqb, ℤ, pos, neg_ℤ, nat_abs, get_or}
+use Rattle.std.specs.Prelude.{Option, Some, None, ◌≡◌, List, ℕ, zero, suc, ◌+◌, ◌-◌, ◌≤◌, ◌<◌, eqb, ℤ, pos, neg_ℤ, nat_abs, get_or}
 use Rattle.asp.specs.Sets.{Set, pick}
 use Rattle.search.specs.Soft.{wish_of}
 use Rattle.search.specs.declared.scan.Found.{Found}
 use Rattle.search.specs.declared.scan.Found.TheVariants.{Broken, Breaker, Clear}
-use Rattle.search.specs.declared.soft.Wish.{Wish}
-use Rattle.search.specs.declared.soft.Wish.TheVariants.{For, Decided}
 
 -- the first undecided atom from a on, among k of them; if there is none, the one after them
 unfoldable pub lowest_from : List ℕ → ℕ → ℕ → ℕ
@@ -26,9 +24,9 @@ pub record LowestIs (v : List ℕ) (n a : ℕ) : Type 0 where
   pub is : 1 ≤ n → a ≡ lowest_of v n
   pub below : DecidedBelow v a
 
-abbrev pub wished_or : ℤ → Wish → ℤ
-wished_or l (For w) = w
-wished_or l Decided = l
+abbrev pub wished_or : ℤ → Option ℤ → ℤ
+wished_or l (Some w) = w
+wished_or l None = l
 
 -- f: the atoms to try in first
 abbrev pub free_literal : Set → ℕ → ℤ

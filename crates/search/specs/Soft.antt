@@ -1,11 +1,7 @@
 -- The assumed soft literals of entries under the values of a trail: "A wish is broken where it is unmet". Assumes nothing: these are definitions.
-use Rattle.std.specs.Prelude.{List, [], ◌∷◌, ℕ, zero, suc, ◌+◌, ◌<◌, ◌≤◌, eqb, ℤ, pos, nat_abs, length, get_or}
+use Rattle.std.specs.Prelude.{Option, Some, None, List, [], ◌∷◌, ℕ, zero, suc, ◌+◌, ◌<◌, ◌≤◌, eqb, ℤ, pos, nat_abs, length, get_or}
 use Rattle.asp.specs.Sets.{Set, In, pick}
 use Rattle.search.specs.Places.{truth_at}
-use Rattle.search.specs.declared.soft.Violation.{Violation}
-use Rattle.search.specs.declared.soft.Violation.TheVariants.{At, Unviolated}
-use Rattle.search.specs.declared.soft.Wish.{Wish}
-use Rattle.search.specs.declared.soft.Wish.TheVariants.{For, Decided}
 
 -- the literal that each one wishes for, and whether it is blamed already (1), the first `count` of both; and the atoms that a free branch tries in first
 pub record AssumedEntries : Type 0 where
@@ -24,20 +20,20 @@ wished_at s i = get_or s.wished i (pos 0)
 abbrev pub judged_at : AssumedEntries → List ℕ → ℕ → ℕ
 judged_at s v i = truth_at v (wished_at s i)
 
-abbrev pub first_of : Violation → ℕ → Violation
-first_of (At j) i = At j
-first_of Unviolated i = At i
+abbrev pub first_of : Option ℕ → ℕ → Option ℕ
+first_of (Some j) i = Some j
+first_of None i = Some i
 
 -- among the k from i on, with the first violated one so far: one that is blamed already comes before a new one (document 01 leaves it free; docs/DECISIONS.md says why this one)
-unfoldable pub violated_from : AssumedEntries → List ℕ → Violation → ℕ → ℕ → Violation
+unfoldable pub violated_from : AssumedEntries → List ℕ → Option ℕ → ℕ → ℕ → Option ℕ
 violated_from s v a i zero = a
 violated_from s v a i (suc k) =
     pick (eqb (judged_at s v i) 2)
-    (pick (eqb (get_or s.blamed i 0) 1) (At i) (violated_from s v (first_of a i) (i + 1) k))
+    (pick (eqb (get_or s.blamed i 0) 1) (Some i) (violated_from s v (first_of a i) (i + 1) k))
     (violated_from s v a (i + 1) k)
 
-abbrev pub violated_of : AssumedEntries → List ℕ → Violation
-violated_of s v = violated_from s v Unviolated 0 s.count
+abbrev pub violated_of : AssumedEntries → List ℕ → Option ℕ
+violated_of s v = violated_from s v None 0 s.count
 
 -- the places among the k from i on that a table says are blamed
 unfoldable pub blamed_from : List ℕ → ℕ → ℕ → List ℕ
@@ -45,11 +41,11 @@ blamed_from b i zero = []
 blamed_from b i (suc k) = pick (eqb (get_or b i 0) 1) (i ∷ blamed_from b (i + 1) k) (blamed_from b (i + 1) k)
 
 -- the first wished literal that is undecided, among the k from i on
-unfoldable pub wish_from : List ℤ → List ℕ → ℕ → ℕ → Wish
-wish_from w v i zero = Decided
-wish_from w v i (suc k) = pick (eqb (truth_at v (get_or w i (pos 0))) 0) (For (get_or w i (pos 0))) (wish_from w v (i + 1) k)
+unfoldable pub wish_from : List ℤ → List ℕ → ℕ → ℕ → Option ℤ
+wish_from w v i zero = None
+wish_from w v i (suc k) = pick (eqb (truth_at v (get_or w i (pos 0))) 0) (Some (get_or w i (pos 0))) (wish_from w v (i + 1) k)
 
-abbrev pub wish_of : List ℤ → ℕ → List ℕ → Wish
+abbrev pub wish_of : List ℤ → ℕ → List ℕ → Option ℤ
 wish_of w k v = wish_from w v 0 k
 
 -- the tables can be read, and literals are of atoms up to 1,024

@@ -1,5 +1,5 @@
 -- The test of a trail and one step of the machine, on the lists of their tables. Assumes nothing: these are definitions.
-use Rattle.std.specs.Prelude.{List, ℕ, leb, ℤ}
+use Rattle.std.specs.Prelude.{Option, Some, None, List, ℕ, leb, ℤ}
 use Rattle.asp.specs.Sets.{pick}
 use Rattle.search.specs.declared.trail.Places.{Places}
 use Rattle.search.specs.Places.{push_of, back_of}
@@ -8,15 +8,13 @@ use Rattle.search.specs.Soft.{AssumedEntries, violated_of}
 use Rattle.search.specs.Branch.{branch_of}
 use Rattle.search.specs.declared.scan.Found.{Found}
 use Rattle.search.specs.declared.scan.Found.TheVariants.{Broken, Breaker, Clear}
-use Rattle.search.specs.declared.soft.Violation.{Violation}
-use Rattle.search.specs.declared.soft.Violation.TheVariants.{At, Unviolated}
 use Rattle.search.specs.declared.step.Tested.{Tested}
 use Rattle.search.specs.declared.step.Tested.TheVariants.{RuleBroken, Full, SoftViolated, Open}
 
 -- no assumed soft literal is violated: open, with the literal to add
-abbrev pub open_or : ℤ → Violation → Tested
-open_or l (At i) = SoftViolated i
-open_or l Unviolated = Open l
+abbrev pub open_or : ℤ → Option ℕ → Tested
+open_or l (Some i) = SoftViolated i
+open_or l None = Open l
 
 -- no rule is broken
 unfoldable pub unbroken : ℕ → AssumedEntries → List ℕ → ℕ → Found → Tested

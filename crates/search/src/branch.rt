@@ -6,16 +6,12 @@ ghost use Rattle.search.specs.Branch.{Noted, DecidedBelow, LowestIs, lowest_of, 
 
 use crate::scan::Found;
 use crate::soft;
-use crate::soft::Wish;
 use asp::literal;
 
 fn at_least_one(a: usize) -> usize
     ensures { result ≡ pick (eqb a 0) 1 a }
 {
-    if a == 0 {
-        return 1;
-    }
-    a
+    if a == 0 { 1 } else { a }
 }
 
 // The lowest undecided atom, where all below `start` are decided; n where there is none below it.
@@ -24,12 +20,10 @@ pub fn lowest(value: &[u8; 1025], n: usize, start: usize) -> usize
     requires decided_below { DecidedBelow value.now start }
     ensures { LowestIs value.now n result }
 {
-    let mut a = at_least_one(start);
-    while a < n {
+    for a in at_least_one(start)..n {
         if value[a] == 0 {
             return a;
         }
-        a += 1;
     }
     n
 }
@@ -40,9 +34,10 @@ fn free_literal(tried: &[u8; 1025], a: usize) -> i32
     ensures { result ≡ free_literal (set_of tried.now) a }
 {
     if tried[a] == 1 {
-        return literal::positive(a);
+        literal::positive(a)
+    } else {
+        literal::negative(a)
     }
-    literal::negative(a)
 }
 
 // Where no literal would break a rule: the first undecided wished literal; else that of a, the lowest undecided atom.
@@ -61,8 +56,8 @@ fn free_branch<'a>(
     ensures { result ≡ free_branch (set_of tried.now) wished.now count value.now n }
 {
     match soft::undecided(wished, count, value) {
-        Wish::For(l) => l,
-        Wish::Decided => free_literal(tried, a),
+        Some(l) => l,
+        None => free_literal(tried, a),
     }
 }
 

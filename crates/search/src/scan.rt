@@ -3,10 +3,10 @@ ghost use Rattle.std.specs.Prelude.{◌≡◌, ℕ, ◌<◌, ◌≤◌, length, 
 ghost use Rattle.search.specs.Scan.{cond_at, meet_value, meet_of, free_of, is_all, note_of};
 
 use crate::value;
-use asp::{literal, table};
+use asp::literal;
 
 // What is left of a rule's conditions: nothing (all are on the trail), one undecided literal, or too much.
-#[derive(Clone, Copy)]
+#[derive(Clone, Copy, PartialEq, Eq, Debug)]
 pub enum Rest {
     All,
     One(i32),
@@ -14,7 +14,7 @@ pub enum Rest {
 }
 
 // What the scan finds: the first broken rule; else the first literal that would break one; else neither.
-#[derive(Clone, Copy)]
+#[derive(Clone, Copy, PartialEq, Eq, Debug)]
 pub enum Found {
     Broken(usize),
     Breaker(i32),
@@ -27,7 +27,7 @@ pub fn condition(pool: &[i32], mid: usize, k: usize) -> i32
     requires pos_bound { nat_abs (get_or pool.now k (pos 0)) ≤ 1024 }
     ensures { result ≡ cond_at pool.now mid k }
 {
-    let l = table::literal_at(pool, k);
+    let l = pool[k];
     if k < mid { literal::complement(l) } else { l }
 }
 
@@ -37,14 +37,8 @@ fn free(rest: Rest, l: i32) -> Rest
 {
     match rest {
         Rest::All => Rest::One(l),
-        Rest::One(f) => {
-            if literal::equal(f, l) {
-                rest
-            } else {
-                Rest::Off
-            }
-        }
-        Rest::Off => Rest::Off,
+        Rest::One(f) if f == l => rest,
+        Rest::One(_) | Rest::Off => Rest::Off,
     }
 }
 
@@ -66,8 +60,7 @@ fn meet(value: &[u8; 1025], rest: Rest, l: i32) -> Rest
     requires { nat_abs l ≤ 1024 }
     ensures { result ≡ meet_of value.now rest l }
 {
-    let a = literal::atom(l);
-    meet_value(rest, l, value[a])
+    meet_value(rest, l, value[literal::atom(l)])
 }
 
 // The condition at place k is met.
@@ -79,13 +72,11 @@ pub fn meet_at<'a>(pool: &'a [i32], value: &'a [u8; 1025], rest: Rest, mid: usiz
     meet(value, rest, condition(pool, mid, k))
 }
 
-pub fn all(rest: Rest) -> bool
-    ensures { result ≡ is_all rest }
-{
-    match rest {
-        Rest::All => true,
-        Rest::One(_) => false,
-        Rest::Off => false,
+impl Rest {
+    pub fn is_all(self) -> bool
+        ensures { result ≡ is_all self }
+    {
+        matches!(self, Rest::All)
     }
 }
 
@@ -93,13 +84,8 @@ pub fn all(rest: Rest) -> bool
 pub fn note(found: Found, rest: Rest) -> Found
     ensures { result ≡ note_of found rest }
 {
-    match found {
-        Found::Broken(_) => found,
-        Found::Breaker(_) => found,
-        Found::Clear => match rest {
-            Rest::All => found,
-            Rest::One(l) => Found::Breaker(l),
-            Rest::Off => found,
-        },
+    match (found, rest) {
+        (Found::Clear, Rest::One(l)) => Found::Breaker(l),
+        _ => found,
     }
 }

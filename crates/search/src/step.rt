@@ -6,11 +6,10 @@ ghost use Rattle.search.specs.Branch.{Noted, lowest_of};
 ghost use Rattle.search.specs.Step.{unbroken};
 
 use crate::scan::Found;
-use crate::soft::Violation;
 use crate::{branch, soft};
 
 // What the test says of a trail: a rule is broken; it holds all n atoms, for the caller to judge; an assumed soft literal is violated; or it is open, with the literal to add.
-#[derive(Clone, Copy)]
+#[derive(Clone, Copy, PartialEq, Eq, Debug)]
 pub enum Tested {
     RuleBroken(usize),
     Full,
@@ -40,9 +39,7 @@ pub fn test_unbroken<'a>(
         return Tested::Full;
     }
     match soft::violated(tried, wished, blamed, count, value) {
-        Violation::At(i) => Tested::SoftViolated(i),
-        Violation::Unviolated => Tested::Open(branch::branch(
-            found, tried, wished, count, n, value, a,
-        )),
+        Some(i) => Tested::SoftViolated(i),
+        None => Tested::Open(branch::branch(found, tried, wished, count, n, value, a)),
     }
 }

@@ -41,8 +41,7 @@ pub fn put(
 {
     lits[len] = l;
     marks[len] = mark;
-    let a = literal::atom(l);
-    value[a] = value::side(l);
+    value[literal::atom(l)] = value::side(l);
     len + 1
 }
 
@@ -53,9 +52,8 @@ pub fn take(lits: &mut [i32; 1024], marks: &mut [u8; 1024], value: &mut [u8; 102
     ensures { (places lits.new marks.new value.new k ≡ drop_of k (places lits.old marks.old value.old k)) × (result ≡ get_or lits.old k (pos 0)) }
 {
     let l = lits[k];
-    let a = literal::atom(l);
     lits[k] = 0;
     marks[k] = 0;
-    value[a] = 0;
+    value[literal::atom(l)] = 0;
     l
 }

@@ -2,13 +2,13 @@
 ghost use Rattle.std.specs.Prelude.{◌≡◌, ℕ, ◌<◌, ◌≤◌, pos, nat_abs, length, get_or};
 ghost use Rattle.search.specs.Places.{side_of, truth_of, truth_at};
 
-use asp::{literal, table};
+use asp::literal::atom;
 
 // The value of the literal's atom where the literal is true: 1 in, 2 out.
 pub fn side(l: i32) -> u8
     ensures { result ≡ side_of l }
 {
-    if literal::is_negative(l) { 2 } else { 1 }
+    if l < 0 { 2 } else { 1 }
 }
 
 // What a literal is where its atom's value is x: 0 undecided, 1 true, 2 false.
@@ -16,9 +16,12 @@ fn truth_of(l: i32, x: u8) -> u8
     ensures { result ≡ truth_of l x }
 {
     if x == 0 {
-        return 0;
+        0
+    } else if side(l) == x {
+        1
+    } else {
+        2
     }
-    if side(l) == x { 1 } else { 2 }
 }
 
 // What a literal is under the values: 0 undecided, 1 true, 2 false.
@@ -26,14 +29,5 @@ pub fn truth(value: &[u8; 1025], l: i32) -> u8
     requires { nat_abs l ≤ 1024 }
     ensures { result ≡ truth_at value.now l }
 {
-    let a = literal::atom(l);
-    truth_of(l, value[a])
-}
-
-// What the literal at place `i` of a table is: 0 undecided, 1 true, 2 false.
-pub fn truth_at<'a>(literals: &'a [i32], i: usize, value: &'a [u8; 1025]) -> u8
-    requires { (i < length literals.now) × (nat_abs (get_or literals.now i (pos 0)) ≤ 1024) }
-    ensures { result ≡ truth_at value.now (get_or literals.now i (pos 0)) }
-{
-    truth(value, table::literal_at(literals, i))
+    truth_of(l, value[atom(l)])
 }

@@ -3,10 +3,11 @@ use Rattle.std.proofs.Common.{◌≡◌, ℕ, zero, suc, ◌+◌, ◌*◌, ◌<�
 use mathlib.Core.Bool.{beq}
 use mir.Facts.{and_yes, or_yes}
 use borrow.Author.Tests.{eqb-false}
+use Rattle.asp.specs.declared.rules.Row.{Row}
 use Rattle.asp.specs.Sets.{In}
 use Rattle.asp.specs.Program.{Weighed, Body, normal, weighted, Head, constraint, plain, choice, Rule, All, LiteralIn, BodyIn, HeadIn, RuleIn}
 use Rattle.asp.specs.Literal.{one_signed}
-use Rattle.asp.specs.Tables.{literals_at, is_choice, is_weighted, is_mixed, Row, row_at, rules_of, RowIn, Formed}
+use Rattle.asp.specs.Tables.{literals_at, is_choice, is_weighted, is_mixed, row_at, rules_of, RowIn, Formed}
 use Rattle.search.specs.Scan.{rules}
 use Rattle.counting.specs.Counts.{sum_from}
 use Rattle.indexing.specs.Sorting.{Readied}
@@ -87,26 +88,26 @@ rules_ok_lem n (r ∷ rs) t =
 
 -- order 2: the weights are inside, and the kind says truly whether an atom has both signs
 abbrev pub weighed_ok : List ℤ → Row → Bool → Bool
-weighed_ok pool w true = leb (w.b + w.c + w.d + 1 + w.d) (length pool) && beq (is_mixed w.a) (not (one_signed (literals_at pool (w.b + w.c) w.d)))
+weighed_ok pool w true = leb (w.first + w.heads + w.literals + 1 + w.literals) (length pool) && beq (is_mixed w.body) (not (one_signed (literals_at pool (w.first + w.heads) w.literals)))
 weighed_ok pool w false = true
 
 abbrev pub row_ok : List ℤ → Row → Bool
-row_ok pool w = leb (w.b + w.c + w.d) (length pool) && ((is_choice w.a || leb w.c 1) && weighed_ok pool w (is_weighted w.a))
+row_ok pool w = leb (w.first + w.heads + w.literals) (length pool) && ((is_choice w.head || leb w.heads 1) && weighed_ok pool w (is_weighted w.body))
 
 row_ok_lem : (pool : List ℤ) (w : Row) → T (row_ok pool w) → RowIn pool w
 row_ok_lem pool w t =
-    let h = and_yes (leb (w.b + w.c + w.d) (length pool)) ((is_choice w.a || leb w.c 1) && weighed_ok pool w (is_weighted w.a)) t in
-    let g = and_yes (is_choice w.a || leb w.c 1) (weighed_ok pool w (is_weighted w.a)) h.1 in
+    let h = and_yes (leb (w.first + w.heads + w.literals) (length pool)) ((is_choice w.head || leb w.heads 1) && weighed_ok pool w (is_weighted w.body)) t in
+    let g = and_yes (is_choice w.head || leb w.heads 1) (weighed_ok pool w (is_weighted w.body)) h.1 in
     record {
-      inside = leb→le (w.b + w.c + w.d) (length pool) h.0;
-      single = λ k. ⊎_elim (λ e. absurd (rw k at e)) (λ l. leb→le w.c 1 l) (or_yes (is_choice w.a) (leb w.c 1) g.0);
-      weighed = λ e. leb→le (w.b + w.c + w.d + 1 + w.d) (length pool) (both e g.1).0;
-      signed = λ e. same_is (is_mixed w.a) (not (one_signed (literals_at pool (w.b + w.c) w.d))) (both e g.1).1;
+      inside = leb→le (w.first + w.heads + w.literals) (length pool) h.0;
+      single = λ k. ⊎_elim (λ e. absurd (rw k at e)) (λ l. leb→le w.heads 1 l) (or_yes (is_choice w.head) (leb w.heads 1) g.0);
+      weighed = λ e. leb→le (w.first + w.heads + w.literals + 1 + w.literals) (length pool) (both e g.1).0;
+      signed = λ e. same_is (is_mixed w.body) (not (one_signed (literals_at pool (w.first + w.heads) w.literals))) (both e g.1).1;
     }
   where
-    both : is_weighted w.a ≡ true → T (weighed_ok pool w (is_weighted w.a))
-        → T (leb (w.b + w.c + w.d + 1 + w.d) (length pool)) × T (beq (is_mixed w.a) (not (one_signed (literals_at pool (w.b + w.c) w.d))))
-    both e g = and_yes (leb (w.b + w.c + w.d + 1 + w.d) (length pool)) (beq (is_mixed w.a) (not (one_signed (literals_at pool (w.b + w.c) w.d)))) (rw e at g)
+    both : is_weighted w.body ≡ true → T (weighed_ok pool w (is_weighted w.body))
+        → T (leb (w.first + w.heads + w.literals + 1 + w.literals) (length pool)) × T (beq (is_mixed w.body) (not (one_signed (literals_at pool (w.first + w.heads) w.literals))))
+    both e g = and_yes (leb (w.first + w.heads + w.literals + 1 + w.literals) (length pool)) (beq (is_mixed w.body) (not (one_signed (literals_at pool (w.first + w.heads) w.literals)))) (rw e at g)
 
     same_is : (x y : Bool) → T (beq x y) → x ≡ y
     same_is true true t = refl
@@ -118,7 +119,7 @@ abbrev pub formed_ok : ℕ → List ℤ → List ℕ → ℕ → Bool
 formed_ok n pool rows count =
     leb n 1024 && (leb (count * 4) (length rows) && (every (λ (r : ℕ). row_ok pool (row_at rows r)) count && rules_ok n (rules_of pool rows count)))
 
-pub formed : (n : ℕ) (pool : List ℤ) (rows : List ℕ) (count : ℕ) → T (formed_ok n pool rows count) → Formed n pool rows count
+pub formed : (n : ℕ) (pool : List ℤ) (rows : List Row) (count : ℕ) → T (formed_ok n pool rows count) → Formed n pool rows count
 formed n pool rows count t =
     let a = and_yes (leb n 1024) _ t in
     let b = and_yes (leb (count * 4) (length rows)) _ a.1 in
@@ -132,7 +133,7 @@ formed n pool rows count t =
 
 -- the rules are few enough, and so are their places together
 abbrev pub room_ok : List ℕ → ℕ → Bool
-room_ok rows count = leb count 2048 && leb (sum_from (λ (r : ℕ). (row_at rows r).c + (row_at rows r).d) 0 count) 16384
+room_ok rows count = leb count 2048 && leb (sum_from (λ (r : ℕ). (row_at rows r).heads + (row_at rows r).literals) 0 count) 16384
 
 pub readied : {n : ℕ} {pool : List ℤ} {rows : List ℕ} {count : ℕ} → Formed n pool rows count → T (room_ok rows count) → Readied (rules pool rows count)
 readied {n} {pool} {rows} {count} f t = let a = and_yes (leb count 2048) _ t in ready f (leb→le count 2048 a.0) (leb→le _ 16384 a.1)

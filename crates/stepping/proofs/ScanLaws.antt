@@ -58,8 +58,8 @@ pub record Outer (g : Rules) (v key : List ℕ) (w : ℕ) (found : Found) (r : �
 
 pub record Inner (g : Rules) (v : List ℕ) (r mid end k : ℕ) : Type 0 where
   pub inside : end ≤ length g.pool
-  pub last : end ≡ (row_of g r).b + (row_of g r).c + (row_of g r).d
-  pub from : (row_of g r).b ≤ k
+  pub last : end ≡ (row_of g r).first + (row_of g r).heads + (row_of g r).literals
+  pub from : (row_of g r).first ≤ k
   pub rest : meets v All (span (cond_at g.pool mid) k (end - k)) ≡ rest_of g v r
 
 -- ---- sixteen rules at once
@@ -133,12 +133,12 @@ row_all : (v : List ℕ) (pool : List ℤ) (s : Rest) (b c d : ℕ) → meets v 
 row_all v pool s b c d = let q : b + c + d - b ≡ c + d = omega arith in rw q
 
 module _ (g : Rules) (r : ℕ) where
-  kind_is : {n : ℕ} {u b : Bool} → n ≡ get_or g.rows (r * 4 + 0) 0 → u ≡ is_weighted n → u ≡ b → is_weighted (row_of g r).a ≡ b
+  kind_is : {n : ℕ} {u b : Bool} → n ≡ get_or g.rows (r * 4 + 0) 0 → u ≡ is_weighted n → u ≡ b → is_weighted (row_of g r).body ≡ b
   kind_is en eu q = let z : r * 4 + 0 ≡ r * 4 = omega arith in rw (← rw z at en, ← eu) q
 
   pub weighted_row : Readable g → r < g.count → {n : ℕ} {u : Bool} → n ≡ get_or g.rows (r * 4 + 0) 0 → u ≡ is_weighted n → u ≡ true → RowReadable (bodies g.pool g.rows) r
   weighted_row f c eq eu tu =
-      let z : is_weighted (row_of g r).a ≡ true = kind_is eq eu tu in
+      let z : is_weighted (row_of g r).body ≡ true = kind_is eq eu tu in
       record { long = omega (arith, f.long); weighted = z; single = f.single r c; inside = f.weighed r c z; small = f.small r c }
 
 module _ (g : Rules) (v key : List ℕ) (w r : ℕ) where
@@ -146,22 +146,22 @@ module _ (g : Rules) (v key : List ℕ) (w r : ℕ) where
   short t l h e = not_off (rest_of g v r) (get_or key r 0) (t.each r h) (omega arith)
 
   pub inner_start : Readable g → Told g v key → w ≤ 1 → r < g.count → {n : ℕ} {u : Bool} → n ≡ get_or g.rows (r * 4 + 0) 0 → u ≡ is_weighted n → u ≡ false → {x : Bool} → x ≡ pick (eqb (get_or key r 0) w) false true → x ≡ false
-      → {k h b : ℕ} → k ≡ (row_of g r).b → h ≡ (row_of g r).c → b ≡ (row_of g r).d → Inner g v r (k + h) (k + h + b) k
+      → {k h b : ℕ} → k ≡ (row_of g r).first → h ≡ (row_of g r).heads → b ≡ (row_of g r).literals → Inner g v r (k + h) (k + h + b) k
   inner_start f t l c eq eu fu e q ek eh eb = rw (ek, eh, eb) (record {
     inside = f.inside r c;
     last = refl;
     from = omega arith;
-    rest = row_all v g.pool All (row_of g r).b (row_of g r).c (row_of g r).d ∙ normal (is_weighted (row_of g r).a) (kind_is g r eq eu fu) (short t l c (here key w r e q));
+    rest = row_all v g.pool All (row_of g r).first (row_of g r).heads (row_of g r).literals ∙ normal (is_weighted (row_of g r).body) (kind_is g r eq eu fu) (short t l c (here key w r e q));
   })
     where
-      go : (b : Bool) → is_choice (row_of g r).a ≡ b → (meets v (pick b Off All) (conditions g.pool (row_of g r)) ≡ Off → ⊥) → meets v All (conditions g.pool (row_of g r)) ≡ meets v (pick b Off All) (conditions g.pool (row_of g r))
+      go : (b : Bool) → is_choice (row_of g r).head ≡ b → (meets v (pick b Off All) (conditions g.pool (row_of g r)) ≡ Off → ⊥) → meets v All (conditions g.pool (row_of g r)) ≡ meets v (pick b Off All) (conditions g.pool (row_of g r))
       go true p n = absurd (n (off_stays v (conditions g.pool (row_of g r))))
       go false p n = refl
 
-      normal : (b : Bool) → b ≡ false → (pick b (both_rest (head_rest g.pool v (row_of g r)) (weighted_rest g.pool v (row_of g r))) (meets v (begins (row_of g r).a) (conditions g.pool (row_of g r))) ≡ Off → ⊥)
-          → meets v All (conditions g.pool (row_of g r)) ≡ pick b (both_rest (head_rest g.pool v (row_of g r)) (weighted_rest g.pool v (row_of g r))) (meets v (begins (row_of g r).a) (conditions g.pool (row_of g r)))
+      normal : (b : Bool) → b ≡ false → (pick b (both_rest (head_rest g.pool v (row_of g r)) (weighted_rest g.pool v (row_of g r))) (meets v (begins (row_of g r).head) (conditions g.pool (row_of g r))) ≡ Off → ⊥)
+          → meets v All (conditions g.pool (row_of g r)) ≡ pick b (both_rest (head_rest g.pool v (row_of g r)) (weighted_rest g.pool v (row_of g r))) (meets v (begins (row_of g r).head) (conditions g.pool (row_of g r)))
       normal true z n = absurd (clash (sym z))
-      normal false z n = go (is_choice (row_of g r).a) refl n
+      normal false z n = go (is_choice (row_of g r).head) refl n
 
   -- order 2: a rule with a weighted body
   pub weighted_here : Told g v key → w ≤ 1 → {found : Found} → Outer g v key w found r → r < g.count → {n : ℕ} {u : Bool} → n ≡ get_or g.rows (r * 4 + 0) 0 → u ≡ is_weighted n → u ≡ true → {x : Bool} → x ≡ pick (eqb (get_or key r 0) w) false true → x ≡ false
@@ -169,7 +169,7 @@ module _ (g : Rules) (v key : List ℕ) (w r : ℕ) where
   weighted_here t l o c eq eu tu e q {s} es ef = rw ef (record { below = o.below; says = go s (rest ∙ sym es) })
     where
       rest : rest_of g v r ≡ both_rest (head_rest g.pool v (row_of g r)) (weighted_rest g.pool v (row_of g r))
-      rest = let z : is_weighted (row_of g r).a ≡ true = kind_is g r eq eu tu in rw z
+      rest = let z : is_weighted (row_of g r).body ≡ true = kind_is g r eq eu tu in rw z
 
       number : get_or key r 0 ≡ w
       number = here key w r e q
@@ -273,10 +273,10 @@ module _ (g : Rules) {r : ℕ} where
   row_in j f h l = omega (arith, f.long)
 
 module _ (g : Rules) {r k h : ℕ} where
-  pub mid_in_lem : Readable g → r < g.count → length g.pool < 2 ^ 64 → k ≡ (row_of g r).b → h ≡ (row_of g r).c → Fits w64 (k + h)
+  pub mid_in_lem : Readable g → r < g.count → length g.pool < 2 ^ 64 → k ≡ (row_of g r).first → h ≡ (row_of g r).heads → Fits w64 (k + h)
   mid_in_lem f l z ek eh = omega (arith, f.inside r l)
 
-  pub end_in : {b : ℕ} → Readable g → r < g.count → length g.pool < 2 ^ 64 → k ≡ (row_of g r).b → h ≡ (row_of g r).c → b ≡ (row_of g r).d → Fits w64 (k + h + b)
+  pub end_in : {b : ℕ} → Readable g → r < g.count → length g.pool < 2 ^ 64 → k ≡ (row_of g r).first → h ≡ (row_of g r).heads → b ≡ (row_of g r).literals → Fits w64 (k + h + b)
   end_in f l z ek eh eb = omega (arith, f.inside r l)
 
 module _ {pool : List ℤ} {rows : List ℕ} {count : ℕ} {v : List ℕ} {r mid end k : ℕ} where

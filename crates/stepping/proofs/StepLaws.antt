@@ -10,6 +10,7 @@ use lib.ListN.{get_or}
 use mir.Syntax.{w32}
 use mir.Val.{to_z, of_z}
 use borrow.Author.Tests.{eq-eqb}
+use Rattle.asp.specs.declared.rules.Row.{Row}
 use Rattle.asp.specs.Sets.{pick, ind}
 use Rattle.asp.specs.Tables.{is_weighted, Formed}
 use Rattle.search.specs.declared.scan.Found.{Found}
@@ -54,7 +55,7 @@ indexed_weighable {g} {o} i f = record {
   each = λ a e h p q.
       let r = get_or o.rules e 0 in
       let c : get_or o.rules e 0 < g.count = i.inside (2050 + a) e (omega arith) p q in
-      let w : is_weighted (row_of g (get_or o.rules e 0)).a ≡ true = i.bodied (get_or o.rules e 0) a c h (some a e p q) in
+      let w : is_weighted (row_of g (get_or o.rules e 0)).body ≡ true = i.bodied (get_or o.rules e 0) a c h (some a e p q) in
       record {
         long = omega (arith, f.long);
         weighted = w;
@@ -120,7 +121,7 @@ module _ (g : Rules) (n : ℕ) (s : AssumedEntries) (t : Places) (bs : Bodies) (
 pub after_full : (g : Rules) (n : ℕ) (s : AssumedEntries) (ls : List ℤ) (ms v : List ℕ) {k len : ℕ} {x : Tested} → x ≡ test_of g n s v len → x ≡ Full → k ≡ len → stepped x (places ls ms v k) ≡ step_of g n s (places ls ms v len)
 after_full g n s ls ms v {len = len} e q z = rw z (step_full g n s (places ls ms v len) e q)
 
-pub after_open : (pool : List ℤ) (rows : List ℕ) (count n : ℕ) (s : AssumedEntries) (t : Places) (bs : Bodies) (o : Index) (y : Counters) {x : Tested} {l : ℤ} → Formed n pool rows count → FormedSoft n s
+pub after_open : (pool : List ℤ) (rows : List Row) (count n : ℕ) (s : AssumedEntries) (t : Places) (bs : Bodies) (o : Index) (y : Counters) {x : Tested} {l : ℤ} → Formed n pool rows count → FormedSoft n s
     → x ≡ test_of (rules pool rows count) n s t.value t.len → x ≡ Open l → {t₁ : Places} {y₁ : Counters} → counted_trail t₁ y₁ ≡ put_all bs o (to_z w32 (of_z w32 l)) 1 (counted_trail t y) → stepped (Open l) t₁ ≡ step_of (rules pool rows count) n s t
 after_open pool rows count n s t bs o y {l = l} f w e q z = step_open pool rows count n s t f w e q (ap (λ (h : CountedTrail). h.trail) z ∙ put_trail bs o (to_z w32 (of_z w32 l)) 1 (counted_trail t y))
 

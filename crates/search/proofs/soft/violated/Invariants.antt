@@ -1,4 +1,3 @@
-use Prim.Native.Nat.{◌-◌}
 use Rattle.asp.specs.Sets.{set_of}
 use Rattle.search.specs.Soft.{assumed_entries}
 use Rattle.search.proofs.SoftLaws.{Seen}
@@ -6,6 +5,3 @@ use Rattle.search.proofs.soft.violated.Given as goal
 
 abbrev pub invariant-loop-i : goal.invariant-loop-i
 invariant-loop-i l = Seen (assumed_entries l.wished l.blamed l.count (set_of l.tried)) l.value l.found l.i
-
-abbrev pub decreases-loop-i : goal.decreases-loop-i
-decreases-loop-i l = l.count - l.i

@@ -5,8 +5,8 @@ use Rattle.search.proofs.step.test_unbroken.Goals as goal
 pub returns-then-n-len : goal.returns-then-n-len
 returns-then-n-len c = search (test_full, rules)
 
-pub returns-in-At : goal.returns-in-At
-returns-in-At c = search (test_violated, rules)
+pub returns-in-Some : goal.returns-in-Some
+returns-in-Some c = search (test_violated, rules)
 
-pub returns-in-Unviolated : goal.returns-in-Unviolated
-returns-in-Unviolated c = search (test_open, rules)
+pub returns-in-None : goal.returns-in-None
+returns-in-None c = search (test_open, rules)

@@ -6,4 +6,4 @@ pub returns : goal.returns
 unfolding put_of
 returns c =
     let f = c.ranges.l in
-    rw (rw (to_z-of_z f) at c.side.ensures, rw (to_z-of_z f) at c.atom-a.ensures, to_z-of_z f)
+    rw (rw (to_z-of_z f) at c.side.ensures, rw (to_z-of_z f) at c.atom.ensures, to_z-of_z f)
