@@ -11,6 +11,7 @@ use lib.IntN.{ℤ, pos, negsuc, nat_abs}
 use lib.ListN.{length, get_or, take, set, length-set}
 use lib.Seq.{get_or-set_same, get_or-set_other}
 use mir.Facts.{yes_eqb}
+use Rattle.std.proofs.lemmas.List.{take_more, take_all}
 use Rattle.asp.specs.Sets.{Set, Sub, In, set_of}
 use Rattle.asp.specs.Program.{All}
 use Rattle.asp.specs.Tables.{named}
@@ -155,20 +156,9 @@ pub record Choosing (M : Set) (heads : List ℤ) (i : ℕ) (xs ys : List ℕ) (n
 pub choosing_start : (M : Set) (heads : List ℤ) (xs : List ℕ) → Choosing M heads 0 xs xs false
 choosing_start M heads xs = record { long = refl; grown = grown_none (λ X. Unit {0}) xs tt }
 
-take_more : {A : Type 0} (xs : List A) (i : ℕ) (d : A) → i < length xs → take (i + 1) xs ≡ take i xs ++ (get_or xs i d ∷ [])
-take_more [] i d h = absurd (omega arith)
-take_more (x ∷ xs) zero d h = refl
-take_more {A} (x ∷ xs) (suc i) d h = let e : suc i + 1 ≡ suc (i + 1) = omega arith in rw e (ap (λ (l : List A). x ∷ l) (take_more xs i d (omega arith)))
-
 map_snoc : {A B : Type 0} (f : A → B) (xs : List A) (x : A) → map f (xs ++ (x ∷ [])) ≡ map f xs ++ (f x ∷ [])
 map_snoc f [] x = refl
 map_snoc {B = B} f (y ∷ xs) x = ap (λ (l : List B). f y ∷ l) (map_snoc f xs x)
-
-take_all : {A : Type 0} (xs : List A) (i : ℕ) → length xs ≤ i → take i xs ≡ xs
-take_all [] zero h = refl
-take_all [] (suc i) h = refl
-take_all (x ∷ xs) zero h = absurd (omega arith)
-take_all {A} (x ∷ xs) (suc i) h = ap (λ (l : List A). x ∷ l) (take_all xs i (omega arith))
 
 module _ {M : Set} {heads : List ℤ} {i : ℕ} {xs ys : List ℕ} {new : Bool} (c : Choosing M heads i xs ys new) where
   pub choosing_next : i < length heads → {zs : List ℕ} {one b : Bool} → Grown (ChosenAtom M (named (get_or heads i (pos 0)))) ys zs one → b ≡ (new || one) → Choosing M heads (i + 1) xs zs b
@@ -191,4 +181,4 @@ module _ {M : Set} {heads : List ℤ} {i : ℕ} {xs ys : List ℕ} {new : Bool} 
       last = rw (take_more heads i (pos 0) h, map_snoc named (take i heads) (get_or heads i (pos 0)))
 
   pub choosing_done : length heads ≤ i → Grown (Chosen M (atoms_named heads)) xs ys new
-  choosing_done h = rw (take_all heads i h) at c.grown
+  choosing_done h = rw (take_all i heads h) at c.grown

@@ -5,9 +5,9 @@ use Prim.Native.Nat.{ℕ, zero, suc, ◌+◌, ◌*◌, ◌≤◌, ◌<◌}
 use native.Mathlib.Numerals.{add-one}
 use native.Mathlib.Omega.{arith}
 use lib.IntN.{ℤ, pos}
-use lib.ListN.{length, get_or, drop}
+use lib.ListN.{length, get_or, drop, length-drop}
 use lib.Seq.{drop-cons}
-use Rattle.std.proofs.lemmas.List.{at_drop_all}
+use Rattle.std.proofs.lemmas.List.{at_drop_all, get_or-drop}
 use Rattle.asp.specs.Sets.{Set}
 use Rattle.asp.specs.Program.{Weighed}
 use Rattle.asp.specs.Stable.{pair_counts, counts}
@@ -27,6 +27,14 @@ pairs_more ls ws i h e = rw (add-one, drop-cons ls i (pos 0) h, drop-cons ws i (
 pub pairs_none : (ls ws : List ℤ) (i : ℕ) → length ls ≤ i → pairs_of (drop i ls) (drop i ws) ≡ []
 unfolding pairs_of
 pairs_none ls ws i h = at_drop_all (λ (xs : List ℤ). pairs_of xs (drop i ws)) ls i h
+
+-- those from a place on
+pub pairs_after : {ls ws : List ℤ} {i : ℕ} → PairsFormed ls ws → i ≤ length ls → PairsFormed (drop i ls) (drop i ws)
+pairs_after {ls} {ws} {i} w h = record {
+  few = omega (arith, length-drop i ls, w.few);
+  even = omega (arith, length-drop i ls, length-drop i ws, w.even);
+  small = λ j l. rw (get_or-drop i ls j (pos 0)) (w.small (i + j) (omega (arith, length-drop i ls, l)));
+}
 
 -- the pairs of a pool, whose weights stand `gap` places further on, are those of two parts of it
 pub pairs_parts : (pool : List ℤ) (gap i k : ℕ) → pairs_of (literals_at pool i k) (literals_at pool (i + gap) k) ≡ pairs_at pool gap i k

@@ -11,7 +11,7 @@ use lib.Seq.{drop-cons, set_at}
 use mir.Syntax.{w64}
 use mir.Val.{to_z, of_z}
 use mir.Facts.{to_z-of_z}
-use Rattle.std.proofs.lemmas.List.{at_drop_more, at_drop_all, length-take-le}
+use Rattle.std.proofs.lemmas.List.{at_drop_more, at_drop_all, length-take-le, take_more, take_all}
 use Rattle.asp.specs.Sets.{Set, pick}
 use Rattle.asp.specs.Literal.{same_ℤ}
 use Rattle.asp.specs.declared.entries.Entry.{Entry}
@@ -60,11 +60,6 @@ module _ {f : Entry → ℤ} {p : ℤ} {entries : List Entry} {sum : ℤ} {i : �
 
 -- ---- the loop over the levels
 
-take_more : {A : Type 0} (xs : List A) (i : ℕ) (d : A) → i < length xs → take (i + 1) xs ≡ take i xs ++ (get_or xs i d ∷ [])
-take_more [] i d h = absurd (omega arith)
-take_more (x ∷ xs) zero d h = refl
-take_more {A} (x ∷ xs) (suc i) d h = let e : suc i + 1 ≡ suc (i + 1) = omega arith in rw e (ap (λ (l : List A). x ∷ l) (take_more xs i d (omega arith)))
-
 map_snoc : {A B : Type 0} (f : A → B) (xs : List A) (x : A) → map f (xs ++ (x ∷ [])) ≡ map f xs ++ (f x ∷ [])
 map_snoc f [] x = refl
 map_snoc {B = B} f (y ∷ xs) x = ap (λ (l : List B). f y ∷ l) (map_snoc f xs x)
@@ -96,9 +91,5 @@ module _ {f : ℤ → ℤ} {levels xs ys : List ℤ} {i : ℕ} (s : Filling f le
   pub filling_done : length levels ≤ i → i ≤ length levels → ys ≡ map f levels ++ drop (length levels) xs
   filling_done h g = let e : i ≡ length levels = omega arith in whole (rw e at s.filled)
     where
-      all : {A : Type 0} (zs : List A) → take (length zs) zs ≡ zs
-      all [] = refl
-      all {A} (z ∷ zs) = ap (λ (l : List A). z ∷ l) (all zs)
-
       whole : ys ≡ map f (take (length levels) levels) ++ drop (length levels) xs → ys ≡ map f levels ++ drop (length levels) xs
-      whole q = rw (all levels) at q
+      whole q = rw (take_all (length levels) levels (omega arith)) at q

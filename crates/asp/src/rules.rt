@@ -1,5 +1,5 @@
 // The tables of rules: a pool of literals, and a row for each rule that says where its head and its body stand there (specs/Tables.antt).
-ghost use Rattle.std.specs.Prelude.{◌≡◌, true, ◌+◌, ◌≤◌, ◌<◌, nat_abs, nat_le, length, get_or};
+ghost use Rattle.std.specs.Prelude.{◌≡◌, true, ◌+◌, ◌≤◌, ◌<◌, nat_abs, nat_le, length, get_or, drop};
 ghost use Rattle.asp.specs.Sets.{set_of};
 ghost use Rattle.asp.specs.Stable.{pair_counts, counts, body_holds};
 ghost use Rattle.asp.specs.Tables.{is_choice, is_weighted, is_mixed, literals_at, row_pairs, bound_at, rule_at, Formed};
@@ -82,7 +82,19 @@ fn counted(l: i32, w: i32, m: AtomSet<'_>, x: AtomSet<'_>) -> u64
     }
 }
 
-impl Pairs<'_> {
+impl<'a> Pairs<'a> {
+    // Those from place i on.
+    pub fn after(self, i: usize) -> Pairs<'a>
+        requires { i ≤ length self.literals.now }
+        ensures literals { result.literals.now ≡ drop i self.entry.literals.now }
+        ensures weights { result.weights.now ≡ drop i self.entry.weights.now }
+    {
+        Pairs {
+            literals: &self.literals[i..],
+            weights: &self.weights[i..],
+        }
+    }
+
     // What they count.
     pub fn counts(self, m: AtomSet<'_>, x: AtomSet<'_>) -> u64
         ensures { result ≡ counts (set_of m.entry.bytes.now) (set_of x.entry.bytes.now) (pairs_of self.entry.literals.now self.entry.weights.now) }

@@ -1,238 +1,146 @@
 // A weighted body under the values of a trail (order 2): the least that it counts in the sets that agree with the trail, and what is left of it.
-ghost use Rattle.std.specs.Prelude.{◌≡◌, ℕ, ◌+◌, ◌-◌, ◌*◌, ◌<◌, ◌≤◌, min, pos, nat_abs, length, get_or};
+ghost use Rattle.std.specs.Prelude.{◌≡◌, ◌-◌, ◌≤◌, ◌<◌, min, nat_abs};
 ghost use Rattle.asp.specs.Sets.{pick};
 ghost use Rattle.asp.specs.Literal.{same_ℤ};
-ghost use Rattle.asp.specs.Tables.{row_at, pair_at, pairs_at};
-ghost use Rattle.asp.specs.Growth.{PairsFormed};
-ghost use Rattle.search.specs.Places.{truth_at};
-ghost use Rattle.search.specs.Weigh.{side_at, total, owed_pair, owed_at, pair_met, met_at, least_at, worth, breaks, breaker_of, body_rest};
+ghost use Rattle.asp.specs.Growth.{weighed, pairs_of};
+ghost use Rattle.search.specs.Weigh.{total, gain, owed_pair, owed_at, pair_met, met_at, least_at, worth, breaks, breaker_of, body_rest};
 
-use asp::{literal, table};
+use asp::literal::complement;
+use asp::rules::Pairs;
 use search::scan::Rest;
-use search::value;
+use search::value::truth;
 
-// What the pair at place `j` counts where its literal is true.
-fn met_at<'a>(pool: &'a [i32], gap: usize, j: usize, value: &'a [u8; 1025]) -> u64
-    requires { (j + gap < length pool.now) × (nat_abs (get_or pool.now j (pos 0)) ≤ 1024) }
-    ensures { (result ≡ pair_met value.now (pair_at pool.now gap j)) × (result < 4294967296) }
+// What a pair counts where its literal is true.
+fn met_pair(l: i32, w: i32, value: &[u8; 1025]) -> u64
+    requires { nat_abs l ≤ 1024 }
+    ensures value { result ≡ pair_met value.now (weighed l w) }
+    ensures small { result < 4294967296 }
 {
-    if value::truth_at(pool, j, value) == 1 {
-        return table::weight_at(pool, j + gap);
+    if truth(value, l) == 1 {
+        u64::from(w.unsigned_abs())
+    } else {
+        0
     }
-    0
 }
 
-// The weights of the true literals among the `k` pairs from `i` on.
-fn met<'a>(pool: &'a [i32], gap: usize, i: usize, k: usize, value: &'a [u8; 1025]) -> u64
-    requires { PairsFormed pool.now gap i k }
-    ensures { result ≡ met_at value.now (pairs_at pool.now gap i k) }
+// The weights of the true literals.
+fn met(body: Pairs<'_>, value: &[u8; 1025]) -> u64
+    ensures { result ≡ met_at value.now (pairs_of body.entry.literals.now body.entry.weights.now) }
 {
-    let end = i + k;
-    let mut j = i;
     let mut sum: u64 = 0;
-    while j < end {
-        let one = met_at(pool, gap, j, value);
-        sum += one;
-        j += 1;
+    for (i, l) in body.literals.iter().enumerate() {
+        sum += met_pair(*l, body.weights[i], value);
     }
     sum
 }
 
-// The literal at place `p`, or its complement.
-fn side_of(pool: &[i32], p: usize, other: bool) -> i32
-    requires { (p < length pool.now) × (nat_abs (get_or pool.now p (pos 0)) ≤ 1024) }
-    ensures { result ≡ side_at pool.now p other }
+// The weight of a pair, if its literal is l.
+fn weight_of(k: i32, w: i32, l: i32) -> u64
+    ensures value { result ≡ pick (same_ℤ l k) (nat_abs w) 0 }
+    ensures small { result < 4294967296 }
 {
-    let l = table::literal_at(pool, p);
-    if other { literal::complement(l) } else { l }
-}
-
-fn is_side(pool: &[i32], p: usize, other: bool, j: usize) -> bool
-    requires { (j < length pool.now) × (p < length pool.now) × (nat_abs (get_or pool.now p (pos 0)) ≤ 1024) }
-    ensures { result ≡ same_ℤ (side_at pool.now p other) (get_or pool.now j (pos 0)) }
-{
-    literal::equal(side_of(pool, p, other), table::literal_at(pool, j))
-}
-
-// The weight of the pair at place `j`, if its literal is the one at place `p`, or its complement.
-fn weight_of(pool: &[i32], gap: usize, j: usize, p: usize, other: bool) -> u64
-    requires { (j + gap < length pool.now) × (p < length pool.now) × (nat_abs (get_or pool.now p (pos 0)) ≤ 1024) }
-    ensures { (result ≡ pick (same_ℤ (side_at pool.now p other) (get_or pool.now j (pos 0))) (nat_abs (get_or pool.now (j + gap) (pos 0))) 0) × (result < 4294967296) }
-{
-    if is_side(pool, p, other, j) {
-        return table::weight_at(pool, j + gap);
+    if l == k {
+        u64::from(w.unsigned_abs())
+    } else {
+        0
     }
-    0
 }
 
-// The weights of the literal at place `p`, or of its complement, among the `k` pairs from `i` on.
-fn total(pool: &[i32], gap: usize, i: usize, k: usize, p: usize, other: bool) -> u64
-    requires { PairsFormed pool.now gap i k × (p < length pool.now) × (nat_abs (get_or pool.now p (pos 0)) ≤ 1024) }
-    ensures { result ≡ total (side_at pool.now p other) (pairs_at pool.now gap i k) }
+// The weights of the literal l.
+fn total(body: Pairs<'_>, l: i32) -> u64
+    ensures { result ≡ total l (pairs_of body.entry.literals.now body.entry.weights.now) }
 {
-    let end = i + k;
-    let mut j = i;
     let mut sum: u64 = 0;
-    while j < end {
-        let one = weight_of(pool, gap, j, p, other);
-        sum += one;
-        j += 1;
+    for (i, k) in body.literals.iter().enumerate() {
+        sum += weight_of(*k, body.weights[i], l);
     }
     sum
 }
 
-fn less(a: u64, b: u64) -> u64
-    ensures { result ≡ a - b }
+// What the literal l is worth: its weights, less those of its complement.
+fn gain(body: Pairs<'_>, l: i32) -> u64
+    requires { nat_abs l ≤ 1024 }
+    ensures { result ≡ gain l (pairs_of body.entry.literals.now body.entry.weights.now) }
 {
-    if a <= b {
-        return 0;
-    }
-    a - b
+    total(body, l).saturating_sub(total(body, complement(l)))
 }
 
-fn lesser(a: u64, b: u64) -> u64
-    ensures { result ≡ min a b }
+// The least that a pair counts, before the pairs of `rest`.
+fn owed_pair(l: i32, w: i32, rest: Pairs<'_>, value: &[u8; 1025]) -> u64
+    requires { nat_abs l ≤ 1024 }
+    ensures value { result ≡ owed_pair value.now (weighed l w) (pairs_of rest.entry.literals.now rest.entry.weights.now) }
+    ensures small { result < 4294967296 }
 {
-    if a <= b {
-        return a;
+    let weight = u64::from(w.unsigned_abs());
+    match truth(value, l) {
+        1 => weight,
+        0 => gain(rest, complement(l)).min(weight),
+        _ => 0,
     }
-    b
 }
 
-// What the literal at place `p` is worth in the `k` pairs from `i` on: its weights, less those of its complement.
-fn gain(pool: &[i32], gap: usize, i: usize, k: usize, p: usize) -> u64
-    requires { PairsFormed pool.now gap i k × (p < length pool.now) × (nat_abs (get_or pool.now p (pos 0)) ≤ 1024) }
-    ensures { result ≡ Rattle.search.specs.Weigh.gain (get_or pool.now p (pos 0)) (pairs_at pool.now gap i k) }
+// The least that all pairs count.
+fn owed(body: Pairs<'_>, value: &[u8; 1025]) -> u64
+    ensures { result ≡ owed_at value.now (pairs_of body.entry.literals.now body.entry.weights.now) }
 {
-    let own = total(pool, gap, i, k, p, false);
-    let other = total(pool, gap, i, k, p, true);
-    less(own, other)
-}
-
-// The least that the pair at place `j` counts, before the `k` pairs after it.
-fn owed_at<'a>(pool: &'a [i32], gap: usize, j: usize, k: usize, value: &'a [u8; 1025]) -> u64
-    requires { PairsFormed pool.now gap (j + 1) k × (j + gap < length pool.now) × (nat_abs (get_or pool.now j (pos 0)) ≤ 1024) }
-    ensures { (result ≡ owed_pair value.now (pair_at pool.now gap j) (pairs_at pool.now gap (j + 1) k)) × (result < 4294967296) }
-{
-    let w = table::weight_at(pool, j + gap);
-    let x = value::truth_at(pool, j, value);
-    if x == 1 {
-        return w;
-    }
-    if x == 0 {
-        let own = total(pool, gap, j + 1, k, j, false);
-        let other = total(pool, gap, j + 1, k, j, true);
-        return lesser(w, less(other, own));
-    }
-    0
-}
-
-// The least that the `k` pairs from `i` on count.
-fn owed<'a>(pool: &'a [i32], gap: usize, i: usize, k: usize, value: &'a [u8; 1025]) -> u64
-    requires { PairsFormed pool.now gap i k }
-    ensures { result ≡ owed_at value.now (pairs_at pool.now gap i k) }
-{
-    let end = i + k;
-    let mut j = i;
     let mut sum: u64 = 0;
-    while j < end {
-        let one = owed_at(pool, gap, j, end - (j + 1), value);
-        sum += one;
-        j += 1;
+    for (i, l) in body.literals.iter().enumerate() {
+        sum += owed_pair(*l, body.weights[i], body.after(i + 1), value);
     }
     sum
 }
 
 // The same, by the plain sum where no atom has both signs.
-fn least<'a>(
-    pool: &'a [i32],
-    mixed: bool,
-    gap: usize,
-    i: usize,
-    k: usize,
-    value: &'a [u8; 1025],
-) -> u64
-    requires { PairsFormed pool.now gap i k }
-    ensures { result ≡ least_at mixed value.now (pairs_at pool.now gap i k) }
+fn least(body: Pairs<'_>, mixed: bool, value: &[u8; 1025]) -> u64
+    ensures { result ≡ least_at mixed value.now (pairs_of body.entry.literals.now body.entry.weights.now) }
 {
     if mixed {
-        return owed(pool, gap, i, k, value);
+        owed(body, value)
+    } else {
+        met(body, value)
     }
-    met(pool, gap, i, k, value)
 }
 
-// What the pair at place `j` is worth at least, in the `k` pairs from `i` on.
-fn worth(pool: &[i32], mixed: bool, gap: usize, i: usize, k: usize, j: usize) -> u64
-    requires { PairsFormed pool.now gap i k × (j + gap < length pool.now) × (nat_abs (get_or pool.now j (pos 0)) ≤ 1024) }
-    ensures { result ≡ worth mixed (pairs_at pool.now gap i k) (pair_at pool.now gap j) }
+// What a pair of the body is worth at least.
+fn worth(body: Pairs<'_>, mixed: bool, l: i32, w: i32) -> u64
+    requires { nat_abs l ≤ 1024 }
+    ensures { result ≡ worth mixed (pairs_of body.entry.literals.now body.entry.weights.now) (weighed l w) }
 {
     if mixed {
-        return gain(pool, gap, i, k, j);
+        gain(body, l)
+    } else {
+        u64::from(w.unsigned_abs())
     }
-    table::weight_at(pool, j + gap)
 }
 
-// Whether the literal at place `j` is undecided and worth what lacks.
-fn breaks<'a>(
-    pool: &'a [i32],
-    mixed: bool,
-    gap: usize,
-    i: usize,
-    k: usize,
-    j: usize,
-    lack: u64,
-    value: &'a [u8; 1025],
-) -> bool
-    requires { PairsFormed pool.now gap i k × (j + gap < length pool.now) × (nat_abs (get_or pool.now j (pos 0)) ≤ 1024) }
-    ensures { result ≡ breaks mixed value.now lack (pairs_at pool.now gap i k) (pair_at pool.now gap j) }
+// Whether its literal is undecided and worth what lacks.
+fn breaks(body: Pairs<'_>, mixed: bool, l: i32, w: i32, lack: u64, value: &[u8; 1025]) -> bool
+    requires { nat_abs l ≤ 1024 }
+    ensures { result ≡ breaks mixed value.now lack (pairs_of body.entry.literals.now body.entry.weights.now) (weighed l w) }
 {
-    if value::truth_at(pool, j, value) == 0 {
-        let one = worth(pool, mixed, gap, i, k, j);
-        return lack <= one;
-    }
-    false
+    truth(value, l) == 0 && lack <= worth(body, mixed, l, w)
 }
 
 // The first such literal.
-fn breaker<'a>(
-    pool: &'a [i32],
-    mixed: bool,
-    gap: usize,
-    i: usize,
-    k: usize,
-    lack: u64,
-    value: &'a [u8; 1025],
-) -> Rest
-    requires { PairsFormed pool.now gap i k }
-    ensures { result ≡ breaker_of mixed value.now lack (pairs_at pool.now gap i k) (pairs_at pool.now gap i k) }
+fn breaker(body: Pairs<'_>, mixed: bool, lack: u64, value: &[u8; 1025]) -> Rest
+    ensures { result ≡ breaker_of mixed value.now lack (pairs_of body.entry.literals.now body.entry.weights.now) (pairs_of body.entry.literals.now body.entry.weights.now) }
 {
-    let end = i + k;
-    let mut j = i;
-    while j < end {
-        if breaks(pool, mixed, gap, i, k, j, lack, value) {
-            return Rest::One(table::literal_at(pool, j));
+    for (i, l) in body.literals.iter().enumerate() {
+        if breaks(body, mixed, *l, body.weights[i], lack, value) {
+            return Rest::One(*l);
         }
-        j += 1;
     }
     Rest::Off
 }
 
-// What is left of the body of the `k` pairs from `i` on, with the bound behind them.
-pub fn body_rest<'a>(
-    pool: &'a [i32],
-    mixed: bool,
-    i: usize,
-    k: usize,
-    value: &'a [u8; 1025],
-) -> Rest
-    requires { PairsFormed pool.now (k + 1) i k }
-    ensures { result ≡ body_rest mixed value.now (nat_abs (get_or pool.now (i + k) (pos 0))) (pairs_at pool.now (k + 1) i k) }
+// What is left of a body with that bound.
+#[tactic(auto, using(crate::proofs::WeighCode::body_reached, crate::proofs::WeighCode::body_lacks))]
+pub fn body_rest(body: Pairs<'_>, bound: u64, mixed: bool, value: &[u8; 1025]) -> Rest
+    ensures { result ≡ body_rest mixed value.now bound (pairs_of body.entry.literals.now body.entry.weights.now) }
 {
-    let gap = k + 1;
-    let bound = table::weight_at(pool, i + k);
-    let sum = least(pool, mixed, gap, i, k, value);
+    let sum = least(body, mixed, value);
     if bound <= sum {
         return Rest::All;
     }
-    breaker(pool, mixed, gap, i, k, bound - sum, value)
+    breaker(body, mixed, bound - sum, value)
 }

@@ -1,9 +1,18 @@
 use borrow.Author.Rules.{rules}
-use Rattle.bodies.proofs.WeighCode.{met_next, met_done}
+use lib.IntN.{pos}
+use lib.ListN.{get_or}
+use mir.Syntax.{w32}
+use mir.Val.{SFits}
+use mir.Facts.{to_z-of_z}
+use Rattle.asp.proofs.Pairs.{pairs_next, pairs_done}
+use Rattle.bodies.proofs.WeighCode.{met_sum}
 use Rattle.bodies.proofs.weigh.met.Goals as goal
 
-pub loop-j-preserved : goal.loop-j-preserved
-loop-j-preserved c = search (met_next, rules)
+pub loop-i-preserved : goal.loop-i-preserved
+loop-i-preserved c =
+    let literal_fits : SFits w32 (get_or c.args.body.literals.now c.loop-i.i (pos 0)) = search rules in
+    let weight_fits : SFits w32 (get_or c.args.body.weights.now c.loop-i.i (pos 0)) = search rules in
+    pairs_next (met_sum c.args.value.now) c.args.body.formed c.loop-i.invariant c.loop-i-test.true (simp to_z-of_z at c.met_pair-sum.ensures.value) c.met_pair-sum.ensures.small
 
 pub returns : goal.returns
-returns c = search (met_done, rules)
+returns c = pairs_done (met_sum c.args.value.now) c.args.body.formed c.loop-i.invariant c.loop-i-test.false

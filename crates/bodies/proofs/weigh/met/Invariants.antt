@@ -1,10 +1,6 @@
-use Prim.Native.Nat.{◌-◌}
 use Rattle.search.specs.Weigh.{met_at}
 use Rattle.asp.proofs.Pairs.{PairsLeft}
 use Rattle.bodies.proofs.weigh.met.Given as goal
 
-abbrev pub invariant-loop-j : goal.invariant-loop-j
-invariant-loop-j l = PairsLeft (met_at l.value) l.pool l.gap l.i l.k l.end l.sum l.j
-
-abbrev pub decreases-loop-j : goal.decreases-loop-j
-decreases-loop-j l = l.end - l.j
+abbrev pub invariant-loop-i : goal.invariant-loop-i
+invariant-loop-i l = PairsLeft (met_at l.value) l.body.literals.now l.body.weights.now l.sum l.i

@@ -1,9 +1,20 @@
 use borrow.Author.Rules.{rules}
-use Rattle.bodies.proofs.WeighCode.{total_next, total_done}
+use lib.IntN.{pos}
+use lib.ListN.{get_or}
+use mir.Syntax.{w32}
+use mir.Val.{SFits}
+use mir.Facts.{to_z-of_z}
+use Rattle.asp.proofs.Pairs.{pairs_next, pairs_done}
+use Rattle.bodies.proofs.WeighCode.{total_sum}
 use Rattle.bodies.proofs.weigh.total.Goals as goal
 
-pub loop-j-preserved : goal.loop-j-preserved
-loop-j-preserved c = search (total_next, rules)
+pub loop-i-preserved : goal.loop-i-preserved
+loop-i-preserved c =
+    let literal_fits : SFits w32 (get_or c.args.body.literals.now c.loop-i.i (pos 0)) = search rules in
+    let weight_fits : SFits w32 (get_or c.args.body.weights.now c.loop-i.i (pos 0)) = search rules in
+    let invariant = rw (to_z-of_z c.ranges.l) at c.loop-i.invariant in
+    let own_fits = c.ranges.l in
+    rw (to_z-of_z c.ranges.l) (pairs_next (total_sum c.args.l) c.args.body.formed invariant c.loop-i-test.true (simp to_z-of_z at c.weight_of-sum.ensures.value) c.weight_of-sum.ensures.small)
 
 pub returns : goal.returns
-returns c = search (total_done, rules)
+returns c = pairs_done (total_sum c.args.l) c.args.body.formed (rw (to_z-of_z c.ranges.l) at c.loop-i.invariant) c.loop-i-test.false
