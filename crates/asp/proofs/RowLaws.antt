@@ -14,10 +14,10 @@ use Rattle.asp.specs.Program.{Literal, LiteralIn, Weighed, Body, normal, weighte
 use Rattle.asp.specs.Stable.{all_hold, counts, body_holds, member, head_adds, constraint_fails}
 use Rattle.asp.specs.Tables.{span, named, literals_at, atoms_at, is_choice, is_weighted, pairs_at, row_pairs, bound_at, row_at, head_at, body_at, rule_at, Formed}
 use Rattle.asp.specs.declared.rules.Row.{Row}
-use Rattle.asp.specs.Growth.{Grown, Chosen, KeptBy, PairsFormed, atoms_named, RowFormed, RulesFormed}
+use Rattle.asp.specs.Growth.{Grown, Chosen, KeptBy, PairsFormed, atoms_named, RowPairs, RowFormed, RulesFormed}
 use Rattle.asp.proofs.Stability.{body_mono, yes_or_left, yes_or_right}
 use Rattle.asp.proofs.Growing.{grown_one, grown_none, named_abs}
-use Rattle.asp.proofs.Spans.{span_at, all_at, all_map, map_span, length_span}
+use Rattle.asp.proofs.Spans.{span_at, get_or_span, all_map, map_span, length_span}
 
 -- ---- the head and the body of a row
 
@@ -60,15 +60,9 @@ module _ {pool : List ℤ} {row : Row} (w : RowFormed pool row) where
   weighed_small : is_weighted row.body ≡ true → All (LiteralIn 1024) (literals_at pool (row.first + row.heads) row.literals)
   weighed_small e = pairs_literals pool (row.literals + 1) (row.first + row.heads) row.literals (rw (body_weighted pool row e) at w.atoms.1)
 
-  pub row_pairs_formed : is_weighted row.body ≡ true → row.literals < 65536
-      → PairsFormed (literals_at pool (row.first + row.heads) row.literals) (literals_at pool (row.first + row.heads + row.literals + 1) row.literals)
-  row_pairs_formed e few =
-      let k : length (literals_at pool (row.first + row.heads) row.literals) ≡ row.literals = length_span (λ (j : ℕ). get_or pool j (pos 0)) (row.first + row.heads) row.literals in
-      record {
-        few = omega arith;
-        even = length_span (λ (j : ℕ). get_or pool j (pos 0)) (row.first + row.heads + row.literals + 1) row.literals ∙ sym k;
-        small = λ j h. (all_at (LiteralIn 1024) (pos 0) (literals_at pool (row.first + row.heads) row.literals) (weighed_small e) j h).1;
-      }
+  -- its pairs, where its body is weighted
+  pub row_paired : is_weighted row.body ≡ true → RowPairs pool row
+  row_paired e = record { inside = w.places.weighed e; small = λ j a b. (span_at (λ (k : ℕ). get_or pool k (pos 0)) (LiteralIn 1024) (row.first + row.heads) row.literals (weighed_small e) j a b).1 }
 
   pub heads_small : is_choice row.head ≡ true → All (In 1024) (atoms_at pool row.first row.heads)
   heads_small e = rw (head_choice pool row e) at w.atoms.0
@@ -76,7 +70,17 @@ module _ {pool : List ℤ} {row : Row} (w : RowFormed pool row) where
   pub head_small : is_choice row.head ≡ false → (row.heads ≡ 0 → ⊥) → In 1024 (named (get_or pool row.first (pos 0)))
   head_small e g = rw (head_plain pool row e g) at w.atoms.0
 
--- ---- its head literals, as the code has them
+-- ---- its pairs and its head literals, as the code has them
+
+pub row_pairs_formed : {pool : List ℤ} {row : Row} → RowPairs pool row → row.literals < 65536
+    → PairsFormed (literals_at pool (row.first + row.heads) row.literals) (literals_at pool (row.first + row.heads + row.literals + 1) row.literals)
+row_pairs_formed {pool} {row} w few =
+    let k : length (literals_at pool (row.first + row.heads) row.literals) ≡ row.literals = length_span (λ (j : ℕ). get_or pool j (pos 0)) (row.first + row.heads) row.literals in
+    record {
+      few = omega arith;
+      even = length_span (λ (j : ℕ). get_or pool j (pos 0)) (row.first + row.heads + row.literals + 1) row.literals ∙ sym k;
+      small = λ j h. rw (get_or_span pool (row.first + row.heads) row.literals j (omega arith)) (w.small (row.first + row.heads + j) (omega arith) (omega arith));
+    }
 
 module _ {pool : List ℤ} {row : Row} (w : RowFormed pool row) where
   pub heads_named : is_choice row.head ≡ true → {heads : List ℤ} → heads ≡ literals_at pool row.first row.heads → All (In 1024) (atoms_named heads)

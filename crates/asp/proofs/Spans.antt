@@ -5,6 +5,7 @@ use mathlib.Core.Logic.{◌⊎◌, inl, inr}
 use Prim.Native.Nat.{ℕ, zero, suc, ◌+◌, ◌-◌, ◌≤◌, ◌<◌}
 use native.Mathlib.Nat.{eq-or-lt_of_le, add-zero}
 use native.Mathlib.Omega.{arith}
+use lib.IntN.{ℤ, pos}
 use lib.ListN.{length, get_or, take, drop}
 use lib.Seq.{drop-cons}
 use native.Mathlib.Numerals.{add-one}
@@ -64,3 +65,10 @@ pub all_at : {A : Type 0} (P : A → Type 0) (d : A) (xs : List A) → All P xs 
 all_at P d [] h i l = absurd (omega arith)
 all_at P d (x ∷ xs) h zero l = h.0
 all_at P d (x ∷ xs) h (suc i) l = all_at P d xs h.1 i (omega arith)
+
+-- a place of it
+pub get_or_span : (xs : List ℤ) (i k j : ℕ) → j < k → get_or (span (λ (p : ℕ). get_or xs p (pos 0)) i k) j (pos 0) ≡ get_or xs (i + j) (pos 0)
+unfolding span
+get_or_span xs i zero j h = absurd (omega arith)
+get_or_span xs i (suc k) zero h = rw add-zero
+get_or_span xs i (suc k) (suc j) h = let e : i + 1 + j ≡ i + suc j = omega arith in get_or_span xs (i + 1) k j (omega arith) ∙ rw e

@@ -1,5 +1,5 @@
 -- What a pass of the closure does to its table of bytes. Assumes nothing: these are definitions.
-use Rattle.std.specs.Prelude.{◌≡◌, Bool, true, false, List, [], ◌∷◌, map, ℕ, ◌≤◌, ◌<◌, T, ℤ, pos, nat_abs, length, get_or}
+use Rattle.std.specs.Prelude.{◌≡◌, Bool, true, false, List, [], ◌∷◌, map, ℕ, ◌+◌, ◌≤◌, ◌<◌, T, ℤ, pos, nat_abs, length, get_or}
 use Rattle.asp.specs.Sets.{Set, Sub, set_of}
 use Rattle.asp.specs.Program.{Weighed, Rule, All, RuleIn}
 use Rattle.asp.specs.Tables.{RowIn, named, row_at, rule_at}
@@ -45,6 +45,11 @@ pub record PairsFormed (literals weights : List ℤ) : Type 0 where
   pub few : length literals < 65536
   pub even : length weights ≡ length literals
   pub small : (j : ℕ) → j < length literals → nat_abs (get_or literals j (pos 0)) ≤ 1024
+
+-- a row's pairs are in the pool, of atoms up to 1,024
+pub record RowPairs (pool : List ℤ) (row : Row) : Type 0 where
+  pub inside : row.first + row.heads + row.literals + 1 + row.literals ≤ length pool
+  pub small : (j : ℕ) → row.first + row.heads ≤ j → j < row.first + row.heads + row.literals → nat_abs (get_or pool j (pos 0)) ≤ 1024
 
 -- one row is well formed; its atoms are 1 to 1,024
 pub record RowFormed (pool : List ℤ) (row : Row) : Type 0 where

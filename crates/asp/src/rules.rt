@@ -3,7 +3,7 @@ ghost use Rattle.std.specs.Prelude.{◌≡◌, true, ◌+◌, ◌≤◌, ◌<◌
 ghost use Rattle.asp.specs.Sets.{set_of};
 ghost use Rattle.asp.specs.Stable.{pair_counts, counts, body_holds};
 ghost use Rattle.asp.specs.Tables.{is_choice, is_weighted, is_mixed, literals_at, row_pairs, bound_at, rule_at, Formed};
-ghost use Rattle.asp.specs.Growth.{PairsFormed, RowFormed, weighed, pairs_of};
+ghost use Rattle.asp.specs.Growth.{PairsFormed, RowPairs, RowFormed, weighed, pairs_of};
 ghost use Rattle.std.proofs.Props.{props};
 ghost use Rattle.asp.specs.Alone.{rules_in-prop};
 
@@ -137,8 +137,7 @@ impl Row {
 
     // The pairs of its weighted body.
     pub fn pairs<'a>(self, pool: &'a [i32]) -> Pairs<'a>
-        requires formed { RowFormed pool.now self }
-        requires weighted { is_weighted self.body ≡ true }
+        requires { RowPairs pool.now self }
         ensures { pairs_of result.literals.now result.weights.now ≡ row_pairs pool.now self }
     {
         let literals = self.body_literals(pool);

@@ -8,7 +8,7 @@ use native.Mathlib.Decide.{ℕ_discrete}
 use native.Mathlib.Omega.{arith}
 use lib.Dec.{eqb, ltb}
 use lib.IntN.{ℤ, pos, negsuc, nat_abs}
-use lib.ListN.{length, get_or, set, replicate, length-set}
+use lib.ListN.{length, get_or, drop, set, replicate, length-set}
 use lib.Seq.{get_or-set_same, get_or-set_other}
 use borrow.Author.Tests.{eq-eqb, ne_eqb, lt-ltb, le-ltb}
 use Rattle.asp.specs.declared.rules.Row.{Row}
@@ -17,9 +17,13 @@ use Rattle.asp.specs.Literal.{same_ℤ, is_negative}
 use Rattle.asp.specs.Program.{Rule, All}
 use Rattle.asp.specs.Penalty.{Penalty, penalty, penalties}
 use Rattle.asp.specs.Stable.{member, listed}
-use Rattle.asp.specs.Tables.{span, named, atoms_at, is_choice, is_weighted, row_at, plain_head, rule_at, rules_of, entry_at, entries_of}
+use Rattle.asp.specs.Tables.{span, named, atoms_at, is_choice, is_weighted, row_at, plain_head, literals_at, rule_at, rules_of, no_entry, entry_at}
 use Rattle.asp.proofs.Spans.{span_more, span_none, span_whole, span_at}
-use Rattle.asp.proofs.Rules.{head_choice}
+use Rattle.asp.proofs.RowLaws.{head_choice, head_named}
+use Rattle.asp.proofs.Growing.{named_atom}
+use Rattle.std.proofs.lemmas.List.{at_drop_more, at_drop_all}
+use Rattle.asp.specs.Growth.{atoms_named}
+use Rattle.asp.specs.declared.entries.Entry.{Entry}
 use Rattle.asp.proofs.Signed.{clash}
 use Rattle.choosing.specs.First.{is_bodiless, chosen_by, freely_chosen_by, freely_chosen, pays_for, paid_for, tried_first, With, Without}
 
@@ -68,52 +72,30 @@ dropped xs m h a = go (ℕ_discrete a m)
 
 -- ---- the loop over the atoms of a choice
 
-pub record Marking (pool : List ℤ) (i k end j : ℕ) (xs ys : List ℕ) : Type 0 where
-  pub start : i ≤ j
-  pub whole : end ≡ i + k
-  pub inside : end ≤ length pool
-  pub atoms : All (In 1024) (atoms_at pool i k)
+pub record Marking (heads : List ℤ) (xs : List ℕ) (i : ℕ) (ys : List ℕ) : Type 0 where
   pub long : length ys ≡ 1025
-  pub rest : (a : ℕ) → (set_of ys a || member a (atoms_at pool j (end - j))) ≡ (set_of xs a || member a (atoms_at pool i k))
+  pub rest : (a : ℕ) → (set_of ys a || member a (atoms_named (drop i heads))) ≡ (set_of xs a || member a (atoms_named heads))
 
-pub marking_start : {pool : List ℤ} {i k : ℕ} {xs : List ℕ} → i + k ≤ length pool → All (In 1024) (atoms_at pool i k) → length xs ≡ 1025 → Marking pool i k (i + k) i xs xs
-marking_start {pool} {i} {k} h w l = record {
-  start = omega arith;
-  whole = refl;
-  inside = h;
-  atoms = w;
-  long = l;
-  rest = λ a. rw (span_whole (λ (p : ℕ). named (get_or pool p (pos 0))) i k);
-}
+pub marking_start : (heads : List ℤ) (xs : List ℕ) → length xs ≡ 1025 → Marking heads xs 0 xs
+marking_start heads xs l = record { long = l; rest = λ a. refl }
 
-module _ {pool : List ℤ} {i k end j : ℕ} {xs ys : List ℕ} (c : Marking pool i k end j xs ys) where
-  pub marking_place : j < end → j < length pool
-  marking_place h = omega (arith, c.inside)
-
-  pub marking_atom : j < end → In 1024 (named (get_or pool j (pos 0)))
-  marking_atom h = span_at (λ (p : ℕ). named (get_or pool p (pos 0))) (In 1024) i k c.atoms j c.start (omega (arith, c.whole))
-
-  pub marking_small : j < end → {m : ℕ} → m ≡ named (get_or pool j (pos 0)) → m < 1025
-  marking_small h e = omega (arith, marking_atom h)
-
-  pub marking_next : j < end → {m : ℕ} → m ≡ named (get_or pool j (pos 0)) → Marking pool i k end (j + 1) xs (set ys m 1)
+module _ {heads : List ℤ} {i : ℕ} {xs ys : List ℕ} (c : Marking heads xs i ys) where
+  pub marking_next : All (In 1024) (atoms_named heads) → i < length heads → {m : ℕ} → m ≡ nat_abs (get_or heads i (pos 0)) → Marking heads xs (i + 1) (set ys m 1)
   unfolding member
-  marking_next h {m} e = record {
-    start = omega (arith, c.start);
-    whole = c.whole;
-    inside = c.inside;
-    atoms = c.atoms;
-    long = length-set ys m 1 ∙ c.long;
-    rest = λ a.
-        rw (marked ys m (omega (arith, marking_small h e, c.long)) a, or_assoc (set_of ys a) (eqb a m) (member a (atoms_at pool (j + 1) (end - (j + 1)))))
-        (rw (span_more (λ (p : ℕ). named (get_or pool p (pos 0))) j end h, ← e) at (c.rest a));
-  }
+  marking_next h l {m} e =
+      let here = named_atom heads h l e in
+      record {
+        long = length-set ys m 1 ∙ c.long;
+        rest = λ a.
+            rw (marked ys m (omega (arith, here.0, c.long)) a, or_assoc (set_of ys a) (eqb a m) (member a (atoms_named (drop (i + 1) heads))))
+            (rw (at_drop_more (λ (hs : List ℤ). member a (atoms_named hs)) heads i (pos 0) l, ← here.1) at (c.rest a));
+      }
 
-  pub marking_done : end ≤ j → With (listed (atoms_at pool i k)) xs ys
+  pub marking_done : length heads ≤ i → With (listed (atoms_named heads)) xs ys
   unfolding member
   marking_done h = record {
     long = c.long;
-    each = λ a. rw (span_none (λ (p : ℕ). named (get_or pool p (pos 0))) j end h, or_false) at (c.rest a);
+    each = λ a. rw (at_drop_all (λ (hs : List ℤ). member a (atoms_named hs)) heads i h, or_false) at (c.rest a);
   }
 
 -- ---- one rule
@@ -122,42 +104,35 @@ module _ {pool : List ℤ} {i k end j : ℕ} {xs ys : List ℕ} (c : Marking poo
 with_none : (X : Set) {xs : List ℕ} → length xs ≡ 1025 → ((a : ℕ) → X a ≡ false) → With X xs xs
 with_none X {xs} l n = record { long = l; each = λ a. rw (n a) (sym (or_false (set_of xs a))) }
 
-module _ (pool : List ℤ) (rows : List Row) (r : ℕ) where
-  pub rule_marked : {k f h b : ℕ} {x y : Bool} → k ≡ get_or rows (r * 4) 0 → x ≡ is_weighted k → x ≡ false → y ≡ is_choice k → y ≡ true → f ≡ get_or rows (r * 4 + 1) 0 → h ≡ get_or rows (r * 4 + 2) 0 → b ≡ get_or rows (r * 4 + 3) 0 → b ≡ 0 → {xs ys : List ℕ}
-      → With (listed (atoms_at pool f h)) xs ys → With (freely_chosen_by (rule_at pool (row_at rows r))) xs ys
+module _ (pool : List ℤ) (row : Row) where
+  pub rule_marked : is_weighted row.body ≡ false → is_choice row.head ≡ true → row.literals ≡ 0 → {heads : List ℤ} → heads ≡ literals_at pool row.first row.heads → {xs ys : List ℕ}
+      → With (listed (atoms_named heads)) xs ys → With (freely_chosen_by (rule_at pool row)) xs ys
   unfolding span
-  rule_marked ek ex p ey q ef eh eb z s =
-      let u : is_weighted (get_or rows (r * 4) 0) ≡ false = rw (← ek, ← ex) p in
-      let c : is_choice (get_or rows (r * 4) 0) ≡ true = rw (← ek, ← ey) q in
-      rw (head_choice pool (row_at rows r) c, u, sym eb ∙ z) (rw (ef, eh) at s)
+  rule_marked u c z {heads} e s =
+      let n : atoms_at pool row.first row.heads ≡ atoms_named heads = rw e (head_named pool row row.first row.heads) in
+      rw (head_choice pool row c, u, z, n) s
 
-  pub rule_weighted : {k : ℕ} {x : Bool} → k ≡ get_or rows (r * 4) 0 → x ≡ is_weighted k → x ≡ true → {xs : List ℕ} → length xs ≡ 1025 → With (freely_chosen_by (rule_at pool (row_at rows r))) xs xs
-  rule_weighted ek ex p l =
-      let u : is_weighted (get_or rows (r * 4) 0) ≡ true = rw (← ek, ← ex) p in
-      with_none (freely_chosen_by (rule_at pool (row_at rows r))) l (λ a. rw u)
+  pub rule_weighted : is_weighted row.body ≡ true → {xs : List ℕ} → length xs ≡ 1025 → With (freely_chosen_by (rule_at pool row)) xs xs
+  rule_weighted u l = with_none (freely_chosen_by (rule_at pool row)) l (λ a. rw u)
 
-  pub rule_bodied : {k b : ℕ} {x : Bool} → k ≡ get_or rows (r * 4) 0 → x ≡ is_weighted k → x ≡ false → b ≡ get_or rows (r * 4 + 3) 0 → (b ≡ 0 → ⊥) → {xs : List ℕ} → length xs ≡ 1025 → With (freely_chosen_by (rule_at pool (row_at rows r))) xs xs
+  pub rule_bodied : is_weighted row.body ≡ false → (row.literals ≡ 0 → ⊥) → {xs : List ℕ} → length xs ≡ 1025 → With (freely_chosen_by (rule_at pool row)) xs xs
   unfolding span
-  rule_bodied ek ex p eb f l =
-      let u : is_weighted (get_or rows (r * 4) 0) ≡ false = rw (← ek, ← ex) p in
-      let q : get_or rows (r * 4 + 3) 0 ≡ suc (get_or rows (r * 4 + 3) 0 - 1) = some (get_or rows (r * 4 + 3) 0) (λ z. f (eb ∙ z)) in
-      with_none (freely_chosen_by (rule_at pool (row_at rows r))) l (λ a. rw (u, q))
+  rule_bodied u f l =
+      let q : row.literals ≡ suc (row.literals - 1) = some row.literals f in
+      with_none (freely_chosen_by (rule_at pool row)) l (λ a. rw (u, q))
     where
       some : (c : ℕ) → (c ≡ 0 → ⊥) → c ≡ suc (c - 1)
       some c h = omega arith
 
-  pub rule_plain : {k : ℕ} {y : Bool} → k ≡ get_or rows (r * 4) 0 → y ≡ is_choice k → y ≡ false → {xs : List ℕ} → length xs ≡ 1025 → With (freely_chosen_by (rule_at pool (row_at rows r))) xs xs
-  rule_plain ek ey q l = with_none (freely_chosen_by (rule_at pool (row_at rows r))) l unchosen
+  pub rule_plain : is_choice row.head ≡ false → {xs : List ℕ} → length xs ≡ 1025 → With (freely_chosen_by (rule_at pool row)) xs xs
+  rule_plain c l = with_none (freely_chosen_by (rule_at pool row)) l unchosen
     where
       plain_none : (hs : List ℕ) (a : ℕ) → chosen_by (plain_head hs) a ≡ false
       plain_none [] a = refl
       plain_none (h ∷ hs) a = refl
 
-      unchosen : (a : ℕ) → freely_chosen_by (rule_at pool (row_at rows r)) a ≡ false
-      unchosen a =
-          let c : is_choice (get_or rows (r * 4) 0) ≡ false = rw (← ek, ← ey) q in
-          rw (c, plain_none (atoms_at pool (get_or rows (r * 4 + 1) 0) (get_or rows (r * 4 + 2) 0)) a)
-          (and_false (is_bodiless (rule_at pool (row_at rows r)).body))
+      unchosen : (a : ℕ) → freely_chosen_by (rule_at pool row) a ≡ false
+      unchosen a = rw (c, plain_none (atoms_at pool row.first row.heads) a) (and_false (is_bodiless (rule_at pool row).body))
 
 -- ---- the loop over the rules
 
@@ -172,7 +147,7 @@ module _ (pool : List ℤ) (rows : List Row) where
   pub passing_start : (count : ℕ) {xs : List ℕ} → length xs ≡ 1025 → Passing count 0 xs xs
   passing_start count l = record { long = l; rest = λ a. rw sub-zero }
 
-module _ {pool : List ℤ} {rows : List ℕ} {count r : ℕ} {xs ys : List ℕ} (p : Passing pool rows count r xs ys) where
+module _ {pool : List ℤ} {rows : List Row} {count r : ℕ} {xs ys : List ℕ} (p : Passing pool rows count r xs ys) where
   pub passing_next : r < count → {zs : List ℕ} → With (freely_chosen_by (rule_at pool (row_at rows r))) ys zs → Passing pool rows count (r + 1) xs zs
   unfolding freely_chosen
   passing_next h w = record {
@@ -213,27 +188,26 @@ module _ (e : Penalty) {xs : List ℕ} (l : length xs ≡ 1025) where
 
 -- ---- the loop over the entries
 
-module _ (priorities literals weights : List ℤ) where
-  pub record Dropping (count i : ℕ) (xs ys : List ℕ) : Type 0 where
-    pub long : length ys ≡ 1025
-    pub rest : (a : ℕ) → (set_of ys a && not (paid_for (penalties (span (entry_at priorities literals weights) i (count - i))) a)) ≡ (set_of xs a && not (paid_for (penalties (entries_of priorities literals weights count)) a))
+pub record Dropping (entries : List Entry) (xs : List ℕ) (i : ℕ) (ys : List ℕ) : Type 0 where
+  pub long : length ys ≡ 1025
+  pub rest : (a : ℕ) → (set_of ys a && not (paid_for (penalties (drop i entries)) a)) ≡ (set_of xs a && not (paid_for (penalties entries) a))
 
-  pub dropping_start : (count : ℕ) {xs : List ℕ} → length xs ≡ 1025 → Dropping count 0 xs xs
-  dropping_start count l = record { long = l; rest = λ a. rw sub-zero }
+pub dropping_start : (entries : List Entry) (xs : List ℕ) → length xs ≡ 1025 → Dropping entries xs 0 xs
+dropping_start entries xs l = record { long = l; rest = λ a. refl }
 
-module _ {priorities literals weights : List ℤ} {count i : ℕ} {xs ys : List ℕ} (d : Dropping priorities literals weights count i xs ys) where
-  pub dropping_next : i < count → {zs : List ℕ} → Without (pays_for (penalty (entry_at priorities literals weights i))) ys zs → Dropping priorities literals weights count (i + 1) xs zs
+module _ {entries : List Entry} {i : ℕ} {xs ys : List ℕ} (d : Dropping entries xs i ys) where
+  pub dropping_next : i < length entries → {zs : List ℕ} → Without (pays_for (penalty (entry_at entries i))) ys zs → Dropping entries xs (i + 1) zs
   unfolding paid_for
   dropping_next h w = record {
     long = w.long;
     rest = λ a.
-        rw (w.each a, without_both (set_of ys a) (pays_for (penalty (entry_at priorities literals weights i)) a) (paid_for (penalties (span (entry_at priorities literals weights) (i + 1) (count - (i + 1)))) a))
-        (rw (span_more (entry_at priorities literals weights) i count h) at (d.rest a));
+        rw (w.each a, without_both (set_of ys a) (pays_for (penalty (entry_at entries i)) a) (paid_for (penalties (drop (i + 1) entries)) a))
+        (rw (at_drop_more (λ (es : List Entry). paid_for (penalties es) a) entries i no_entry h) at (d.rest a));
   }
 
-  pub dropping_done : count ≤ i → Without (paid_for (penalties (entries_of priorities literals weights count))) xs ys
+  pub dropping_done : length entries ≤ i → Without (paid_for (penalties entries)) xs ys
   unfolding paid_for
-  dropping_done h = record { long = d.long; each = λ a. rw (span_none (entry_at priorities literals weights) i count h, and_true) at (d.rest a) }
+  dropping_done h = record { long = d.long; each = λ a. rw (at_drop_all (λ (es : List Entry). paid_for (penalties es) a) entries i h, and_true) at (d.rest a) }
 
 -- ---- both passes, from an empty table
 

@@ -1,125 +1,76 @@
 // The atoms that a free branch tries in first (specs/First.antt).
-ghost use Rattle.std.specs.Prelude.{◌≡◌, ℕ, ◌+◌, ◌≤◌, ◌<◌, length, get_or, pos, nat_abs};
+ghost use Rattle.std.specs.Prelude.{◌≡◌, ℕ, ◌≤◌, length, nat_abs};
 ghost use Rattle.asp.specs.Sets.{set_of, In};
 ghost use Rattle.asp.specs.Program.{All};
 ghost use Rattle.asp.specs.Penalty.{penalty, penalties};
 ghost use Rattle.asp.specs.Stable.{listed};
-ghost use Rattle.asp.specs.Tables.{atoms_at, row_at, rule_at, rules_of, entry_at, entries_of};
-ghost use Rattle.asp.specs.Growth.{RuleFormed, RulesFormed};
-ghost use Rattle.asp.specs.Paying.{EntriesFormed};
+ghost use Rattle.asp.specs.Tables.{rule_at, rules_of};
+ghost use Rattle.asp.specs.Growth.{RowFormed, atoms_named};
 ghost use Rattle.choosing.specs.First.{freely_chosen_by, freely_chosen, pays_for, paid_for, tried_first, With, Without};
 
-use asp::{literal, penalty, table};
+use asp::cost::Objective;
+use asp::entries::Entry;
+use asp::literal::atom;
+use asp::rules::{Row, RuleTable};
 
-// Marks `k` atoms of the pool, from `i` on.
-fn choose(pool: &[i32], i: usize, k: usize, tried: &mut [u8; 1025])
-    requires k_in_bounds { i + k ≤ length pool.now }
-    requires all { All (In 1024) (atoms_at pool.now i k) }
-    requires tried_len { length tried.old ≡ 1025 }
-    ensures { With (listed (atoms_at pool.now i k)) tried.old tried.new }
+// Marks the atoms of a choice.
+fn choose(heads: &[i32], tried: &mut [u8; 1025])
+    requires { All (In 1024) (atoms_named heads.now) }
+    ensures { With (listed (atoms_named heads.now)) tried.old tried.new }
 {
-    let end = i + k;
-    let mut j = i;
-    while j < end {
-        let a = table::atom_at(pool, j);
-        tried[a] = 1;
-        j += 1;
+    for l in heads {
+        tried[atom(*l)] = 1;
     }
 }
 
-// Marks what rule r chooses, if it is a choice without a body.
-fn choose_rule<'a>(pool: &'a [i32], rows: &'a [u16], r: usize, tried: &mut [u8; 1025])
-    requires rule_formed { RuleFormed pool.now rows.now r }
-    requires tried_len { length tried.old ≡ 1025 }
-    ensures { With (freely_chosen_by (rule_at pool.now (row_at rows.now r))) tried.old tried.new }
+// Marks what a rule chooses, if it is a choice without a body.
+fn choose_rule(row: Row, pool: &[i32], tried: &mut [u8; 1025])
+    requires { RowFormed pool.now row }
+    ensures { With (freely_chosen_by (rule_at pool.now row)) tried.old tried.new }
 {
-    let at = r * 4;
-    let kind = table::number_at(rows, at);
-    let first = table::number_at(rows, at + 1);
-    let heads = table::number_at(rows, at + 2);
-    let body = table::number_at(rows, at + 3);
-    if table::is_weighted(kind) {
+    if row.body.is_weighted() {
         return;
     }
-    if !table::is_choice(kind) {
-        return;
-    }
-    if body == 0 {
-        choose(pool, first, heads, tried);
+    if row.head.is_choice() && row.literals == 0 {
+        choose(row.head_atoms(pool), tried);
     }
 }
 
 // Marks what the choices without a body choose.
-fn choose_all<'a>(pool: &'a [i32], rows: &'a [u16], count: usize, tried: &mut [u8; 1025])
-    requires rules_formed { RulesFormed pool.now rows.now count }
-    requires tried_len { length tried.old ≡ 1025 }
-    ensures { With (freely_chosen (rules_of pool.now rows.now count)) tried.old tried.new }
+fn choose_all(rules: RuleTable<'_>, tried: &mut [u8; 1025])
+    ensures { With (freely_chosen (rules_of rules.entry.pool.now rules.entry.rows.now (length rules.entry.rows.now))) tried.old tried.new }
 {
-    let mut r: usize = 0;
-    while r < count {
-        choose_rule(pool, rows, r, tried);
-        r += 1;
+    for row in rules.rows {
+        choose_rule(*row, rules.pool, tried);
     }
 }
 
-// Drops the atom that entry i pays for, if it does.
-fn drop_entry<'a>(
-    priorities: &'a [i32],
-    literals: &'a [i32],
-    weights: &'a [i32],
-    i: usize,
-    tried: &mut [u8; 1025],
-)
-    requires i_in_bounds { i < length literals.now }
-    requires i_in_bounds_2 { i < length weights.now }
-    requires pos_bound { nat_abs (get_or literals.now i (pos 0)) ≤ 1024 }
-    requires tried_len { length tried.old ≡ 1025 }
-    ensures { Without (pays_for (penalty (entry_at priorities.now literals.now weights.now i))) tried.old tried.new }
+// Drops the atom that an entry pays for, if it does.
+fn drop_entry(e: Entry, tried: &mut [u8; 1025])
+    requires { nat_abs e.literal ≤ 1024 }
+    ensures { Without (pays_for (penalty e)) tried.old tried.new }
 {
-    if 0 < penalty::weight_at(weights, i) {
-        let l = penalty::literal_at(literals, weights, i);
-        if !literal::is_negative(l) {
-            let a = literal::atom(l);
-            tried[a] = 0;
-        }
+    let l = e.paid_literal();
+    if 0 < e.size() && 0 <= l {
+        tried[atom(l)] = 0;
     }
 }
 
 // Drops the atoms that an entry pays for.
-fn drop_paid<'a>(
-    priorities: &'a [i32],
-    literals: &'a [i32],
-    weights: &'a [i32],
-    count: usize,
-    tried: &mut [u8; 1025],
-)
-    requires entries_formed { EntriesFormed priorities.now literals.now weights.now count }
-    requires tried_len { length tried.old ≡ 1025 }
-    ensures { Without (paid_for (penalties (entries_of priorities.now literals.now weights.now count))) tried.old tried.new }
+fn drop_paid(objective: Objective<'_>, tried: &mut [u8; 1025])
+    ensures { Without (paid_for (penalties objective.entry.entries.now)) tried.old tried.new }
 {
-    let mut i: usize = 0;
-    while i < count {
-        drop_entry(priorities, literals, weights, i, tried);
-        i += 1;
+    for e in objective.entries {
+        drop_entry(*e, tried);
     }
 }
 
 // The atoms that a free branch tries in first, as bytes by atom.
-pub fn tried_first<'a>(
-    pool: &'a [i32],
-    rows: &'a [u16],
-    rulecount: usize,
-    priorities: &'a [i32],
-    literals: &'a [i32],
-    weights: &'a [i32],
-    entrycount: usize,
-) -> [u8; 1025]
-    requires rules_formed { RulesFormed pool.now rows.now rulecount }
-    requires entries_formed { EntriesFormed priorities.now literals.now weights.now entrycount }
-    ensures { (a : ℕ) → set_of result a ≡ tried_first (rules_of pool.now rows.now rulecount) (penalties (entries_of priorities.now literals.now weights.now entrycount)) a }
+pub fn tried_first(rules: RuleTable<'_>, objective: Objective<'_>) -> [u8; 1025]
+    ensures { (a : ℕ) → set_of result a ≡ tried_first (rules_of rules.entry.pool.now rules.entry.rows.now (length rules.entry.rows.now)) (penalties objective.entry.entries.now) a }
 {
     let mut tried = [0u8; 1025];
-    choose_all(pool, rows, rulecount, &mut tried);
-    drop_paid(priorities, literals, weights, entrycount, &mut tried);
+    choose_all(rules, &mut tried);
+    drop_paid(objective, &mut tried);
     tried
 }

@@ -98,9 +98,9 @@ weigh_number pool v w = rest_number (head_rest pool v w) + rest_number (weighted
 -- the tables that say the bodies
 pub record Bodies : Type 0 where
   pub pool : List ℤ
-  pub rows : List ℕ
+  pub rows : List Row
 
-abbrev pub bodies : List ℤ → List ℕ → Bodies
+abbrev pub bodies : List ℤ → List Row → Bodies
 bodies p r = record { pool = p; rows = r }
 
 abbrev pub number_of : Bodies → List ℕ → ℕ → ℕ

@@ -1,5 +1,6 @@
 -- The moves of the trail, with the numbers of the rules beside it. Assumes nothing: these are definitions.
 use Rattle.std.specs.Prelude.{◌≡◌, true, false, List, ℕ, zero, suc, ◌+◌, ◌*◌, ◌≤◌, ◌<◌, eqb, ℤ, pos, neg_ℤ, nat_abs, length, get_or}
+use Rattle.asp.specs.declared.rules.Row.{Row}
 use Rattle.asp.specs.Sets.{pick}
 use Rattle.asp.specs.Tables.{is_choice, is_weighted, row_at}
 use Rattle.search.specs.declared.trail.Places.{Places}
@@ -14,13 +15,17 @@ pub record CountedTrail : Type 0 where
 abbrev pub counted_trail : Places → Counters → CountedTrail
 counted_trail t y = record { trail = t; counters = y }
 
--- the row of a rule with a weighted body can be read
+-- a row with a weighted body can be read
+pub record RowWeighs (pool : List ℤ) (w : Row) : Type 0 where
+  pub weighted : is_weighted w.body ≡ true
+  pub single : is_choice w.head ≡ false → w.heads ≤ 1
+  pub inside : w.first + w.heads + w.literals + 1 + w.literals ≤ length pool
+  pub small : (k : ℕ) → w.first ≤ k → k < w.first + w.heads + w.literals → nat_abs (get_or pool k (pos 0)) ≤ 1024
+
+-- the row of a rule with a weighted body can
 pub record RowReadable (b : Bodies) (r : ℕ) : Type 0 where
-  pub long : r * 4 + 4 ≤ length b.rows
-  pub weighted : is_weighted (row_at b.rows r).body ≡ true
-  pub single : is_choice (row_at b.rows r).head ≡ false → (row_at b.rows r).heads ≤ 1
-  pub inside : (row_at b.rows r).first + (row_at b.rows r).heads + (row_at b.rows r).literals + 1 + (row_at b.rows r).literals ≤ length b.pool
-  pub small : (k : ℕ) → (row_at b.rows r).first ≤ k → k < (row_at b.rows r).first + (row_at b.rows r).heads + (row_at b.rows r).literals → nat_abs (get_or b.pool k (pos 0)) ≤ 1024
+  pub long : r < length b.rows
+  pub row : RowWeighs b.pool (row_at b.rows r)
 
 -- and so can those of the rules at some places of a list
 pub record ListReadable (b : Bodies) (rs : List ℕ) (from end : ℕ) : Type 0 where

@@ -2,8 +2,6 @@
 ghost use Rattle.std.specs.Prelude.{◌≡◌, ℕ, ◌+◌, ◌-◌, ◌*◌, ◌≤◌, ◌<◌, length, get_or, set};
 ghost use Rattle.counting.specs.Counters.{index, Shaped, counters, plus_one, lower_marks, raise_marks, freed_marks, lower_at, raise_at, lower_from, raise_from, shift_of, decide_of, release_of};
 
-use asp::table::number_at;
-
 // The rules in which a literal is a condition, or an atom is a head (or one that a weighted body names): list i has the places from `starts` at i to `starts` at i + 1 of `rules`.
 #[derive(Clone, Copy)]
 pub struct Index {
@@ -12,7 +10,7 @@ pub struct Index {
 }
 
 // Where the searches start: how many rules are broken; a rule below which all numbers are 2 or more; one below which none is 0; and an atom below which all are decided.
-#[derive(Clone, Copy)]
+#[derive(Clone, Copy, PartialEq, Eq, Debug)]
 pub struct Marks {
     pub broken: usize,
     pub low: usize,
@@ -23,46 +21,31 @@ pub struct Marks {
 fn less(k: u16) -> u16
     ensures { result ≡ k - 1 }
 {
-    if k == 0 {
-        return 0;
-    }
-    k - 1
+    k.saturating_sub(1)
 }
 
 fn raised(k: u16) -> u16
     ensures { result ≡ plus_one k }
 {
-    if k < 65535 {
-        return k + 1;
-    }
-    k
+    k.saturating_add(1)
 }
 
 pub fn bump(b: usize) -> usize
     ensures { result ≡ plus_one b }
 {
-    if b < 65535 {
-        return b + 1;
-    }
-    b
+    if b < 65535 { b + 1 } else { b }
 }
 
 pub fn fall(b: usize) -> usize
     ensures { result ≡ b - 1 }
 {
-    if b == 0 {
-        return 0;
-    }
-    b - 1
+    b.saturating_sub(1)
 }
 
 pub fn least(r: usize, low: usize) -> usize
     ensures { result ≡ Rattle.counting.specs.Counters.least r low }
 {
-    if r < low {
-        return r;
-    }
-    low
+    r.min(low)
 }
 
 // The marks after rule r had k and has one less.
@@ -81,10 +64,8 @@ fn lower_marks(m: Marks, r: usize, k: u16) -> Marks
         };
     }
     Marks {
-        broken: m.broken,
         low: least(r, m.low),
-        zero: m.zero,
-        atom: m.atom,
+        ..m
     }
 }
 
@@ -95,9 +76,7 @@ fn raise_marks(m: Marks, k: u16) -> Marks
     if k == 0 {
         return Marks {
             broken: fall(m.broken),
-            low: m.low,
-            zero: m.zero,
-            atom: m.atom,
+            ..m
         };
     }
     m
@@ -127,11 +106,8 @@ fn lower_all(rules: &[u16], from: usize, end: usize, key: &mut [u16; 2048], star
     ensures { counters key.new result ≡ lower_from rules.now from (end - from) (counters key.old start) }
 {
     let mut m = start;
-    let mut e = from;
-    while e < end {
-        let r = number_at(rules, e);
-        m = lower_at(key, r, m);
-        e += 1;
+    for e in from..end {
+        m = lower_at(key, usize::from(rules[e]), m);
     }
     m
 }
@@ -148,11 +124,8 @@ pub fn raise_all(
     ensures { counters key.new result ≡ raise_from rules.now from (end - from) (counters key.old start) }
 {
     let mut m = start;
-    let mut e = from;
-    while e < end {
-        let r = number_at(rules, e);
-        m = raise_at(key, r, m);
-        e += 1;
+    for e in from..end {
+        m = raise_at(key, usize::from(rules[e]), m);
     }
     m
 }
@@ -169,11 +142,11 @@ fn shift<'a>(
     requires { Shaped (index starts.now rules.now) × (length key.old ≡ 2048) × (down < 2050) × (up < 2050) }
     ensures { counters key.new result ≡ shift_of (index starts.now rules.now) down up (counters key.old m) }
 {
-    let a = number_at(starts, down);
-    let b = number_at(starts, down + 1);
+    let a = usize::from(starts[down]);
+    let b = usize::from(starts[down + 1]);
     let x = lower_all(rules, a, b, key, m);
-    let c = number_at(starts, up);
-    let d = number_at(starts, up + 1);
+    let c = usize::from(starts[up]);
+    let d = usize::from(starts[up + 1]);
     raise_all(rules, c, d, key, x)
 }
 
@@ -200,10 +173,8 @@ fn freed(m: Marks, a: usize) -> Marks
     ensures { result ≡ freed_marks a m }
 {
     Marks {
-        broken: m.broken,
-        low: m.low,
-        zero: m.zero,
         atom: least(a, m.atom),
+        ..m
     }
 }
 
@@ -241,8 +212,7 @@ pub fn forget<'a>(
     requires { (Shaped (index starts.now rules.now) × (length key.old ≡ 2048)) × (a ≤ 1024) }
     ensures { counters key.new result ≡ release_of (index starts.now rules.now) a (get_or value.now a 0) (counters key.old m) }
 {
-    let y = value[a];
-    release(starts, rules, a, y, key, m)
+    release(starts, rules, a, value[a], key, m)
 }
 
 // An atom that has the value at a, of those lent, gets the value s.

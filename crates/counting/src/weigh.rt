@@ -1,23 +1,23 @@
 // The numbers of the rules with weighted bodies (order 2): each by the values alone, made anew where the value of one of its atoms changes.
-ghost use Rattle.std.specs.Prelude.{◌≡◌, ℕ, ◌+◌, ◌-◌, ◌*◌, ◌≤◌, ◌<◌, max, true, false, pos, nat_abs, eqb, ltb, length, get_or};
+ghost use Rattle.std.specs.Prelude.{◌≡◌, false, ◌+◌, ◌-◌, ◌≤◌, ◌<◌, max, eqb, ltb, length, get_or};
 ghost use Rattle.asp.specs.Sets.{pick};
-ghost use Rattle.asp.specs.Tables.{row_at, pairs_at};
-ghost use Rattle.asp.specs.Growth.{PairsFormed};
+ghost use Rattle.asp.specs.Tables.{row_at};
+ghost use Rattle.asp.specs.Growth.{pairs_of};
 ghost use Rattle.search.specs.Scan.{head_rest, weighted_rest};
 ghost use Rattle.search.specs.Weigh.{met_at, body_rest, both_rest};
-ghost use Rattle.counting.specs.Moves.{RowReadable, ListReadable, Fit};
+ghost use Rattle.counting.specs.Moves.{RowWeighs, RowReadable, ListReadable, Fit};
 ghost use Rattle.counting.specs.Counters.{index, counters, least, rest_number, weigh_number, bodies, broken_after, put_marks, put_at, renew_at, open_at, weigh_from, weigh_of};
 
 use crate::counters;
 use crate::counters::Marks;
-use asp::table;
-use asp::table::number_at;
+use asp::rules::{HeadKind, Pairs, Row};
 use bodies::weigh;
 use search::scan::Rest;
 use search::{scan, value};
 
 fn rest_number(rest: Rest) -> u16
-    ensures { (result ≡ rest_number rest) × (result ≤ 2) }
+    ensures value { result ≡ rest_number rest }
+    ensures small { result ≤ 2 }
 {
     match rest {
         Rest::All => 0,
@@ -27,147 +27,130 @@ fn rest_number(rest: Rest) -> u16
 }
 
 // What is left of a rule's head.
-fn head_rest<'a>(pool: &'a [i32], rows: &'a [u16], r: usize, value: &'a [u8; 1025]) -> Rest
-    requires { RowReadable (bodies pool.now rows.now) r }
-    ensures { result ≡ head_rest pool.now value.now (row_at rows.now r) }
+fn head_rest(pool: &[i32], row: Row, value: &[u8; 1025]) -> Rest
+    requires { RowWeighs pool.now row }
+    ensures { result ≡ head_rest pool.now value.now row }
 {
-    let kind = number_at(rows, r * 4);
-    let first = number_at(rows, r * 4 + 1);
-    let heads = number_at(rows, r * 4 + 2);
-    if table::is_choice(kind) {
-        return Rest::Off;
+    match row.head {
+        HeadKind::Choice => Rest::Off,
+        HeadKind::Plain if row.heads == 0 => Rest::All,
+        HeadKind::Plain => {
+            let first = usize::from(row.first);
+            scan::meet_at(
+                pool,
+                value,
+                Rest::All,
+                first + usize::from(row.heads),
+                first,
+            )
+        }
     }
-    if heads == 0 {
-        return Rest::All;
-    }
-    scan::meet_at(pool, value, Rest::All, first + heads, first)
 }
 
 // What is left of its body.
-fn body_rest<'a>(pool: &'a [i32], rows: &'a [u16], r: usize, value: &'a [u8; 1025]) -> Rest
-    requires { RowReadable (bodies pool.now rows.now) r }
-    ensures { result ≡ weighted_rest pool.now value.now (row_at rows.now r) }
+fn body_rest(pool: &[i32], row: Row, value: &[u8; 1025]) -> Rest
+    requires { RowWeighs pool.now row }
+    ensures { result ≡ weighted_rest pool.now value.now row }
 {
-    let kind = number_at(rows, r * 4);
-    let first = number_at(rows, r * 4 + 1);
-    let heads = number_at(rows, r * 4 + 2);
-    let k = table::count_at(rows, r * 4 + 3);
-    weigh::body_rest(pool, table::is_mixed(kind), first + heads, k, value)
+    weigh::body_rest(row.pairs(pool), row.bound(pool), row.body.is_mixed(), value)
 }
 
 fn both(head: Rest, body: Rest) -> Rest
     ensures { result ≡ both_rest head body }
 {
-    match head {
-        Rest::All => body,
-        Rest::One(_) => match body {
-            Rest::All => head,
-            Rest::One(_) => Rest::Off,
-            Rest::Off => Rest::Off,
-        },
-        Rest::Off => Rest::Off,
+    match (head, body) {
+        (Rest::All, _) => body,
+        (Rest::One(_), Rest::All) => head,
+        _ => Rest::Off,
     }
 }
 
 // What is left of a rule with a weighted body.
-pub fn rest<'a>(pool: &'a [i32], rows: &'a [u16], r: usize, value: &'a [u8; 1025]) -> Rest
-    requires { RowReadable (bodies pool.now rows.now) r }
-    ensures { result ≡ both_rest (head_rest pool.now value.now (row_at rows.now r)) (weighted_rest pool.now value.now (row_at rows.now r)) }
+pub fn rest(pool: &[i32], row: Row, value: &[u8; 1025]) -> Rest
+    requires { RowWeighs pool.now row }
+    ensures { result ≡ both_rest (head_rest pool.now value.now row) (weighted_rest pool.now value.now row) }
 {
-    let head = head_rest(pool, rows, r, value);
-    let body = body_rest(pool, rows, r, value);
-    both(head, body)
+    both(head_rest(pool, row, value), body_rest(pool, row, value))
 }
 
-// What the pairs come to: the weights of the true literals, and the greatest of an undecided one.
-#[derive(Clone, Copy)]
-struct Pairs {
+// What pairs come to: the weights of the true literals, and the greatest of an undecided one.
+#[derive(Clone, Copy, PartialEq, Eq, Debug)]
+struct Tally {
     met: u64,
     most: u64,
 }
 
-fn with_true(met: u64, x: u8, w: u64) -> u64
-    requires { met + w < 18446744073709551616 }
-    ensures { result ≡ met + pick (eqb x 1) w 0 }
-{
-    if x == 1 {
-        return met + w;
-    }
-    met
-}
-
-fn with_open(most: u64, x: u8, w: u64) -> u64
-    ensures { result ≡ max most (pick (eqb x 0) w 0) }
-{
-    if x == 0 {
-        if most < w {
-            return w;
+impl Tally {
+    // One more pair, of weight w, whose literal is x: 0 undecided, 1 true, 2 false.
+    fn with(self, x: u8, w: u64) -> Tally
+        requires { self.met + w < 18446744073709551616 }
+        ensures met { result.met ≡ self.met + pick (eqb x 1) w 0 }
+        ensures most { result.most ≡ max self.most (pick (eqb x 0) w 0) }
+    {
+        match x {
+            0 => Tally {
+                most: self.most.max(w),
+                ..self
+            },
+            1 => Tally {
+                met: self.met + w,
+                ..self
+            },
+            _ => self,
         }
     }
-    most
 }
 
-// The `k` pairs from `i` on, in one pass.
-fn tally<'a>(pool: &'a [i32], gap: usize, i: usize, k: usize, value: &'a [u8; 1025]) -> Pairs
-    requires { PairsFormed pool.now gap i k }
-    ensures { (result.met ≡ met_at value.now (pairs_at pool.now gap i k)) × (result.most ≡ open_at value.now (pairs_at pool.now gap i k)) }
+// The pairs of a body, in one pass.
+fn sum(body: Pairs<'_>, value: &[u8; 1025]) -> Tally
+    ensures met { result.met ≡ met_at value.now (pairs_of body.entry.literals.now body.entry.weights.now) }
+    ensures most { result.most ≡ open_at value.now (pairs_of body.entry.literals.now body.entry.weights.now) }
 {
-    let end = i + k;
-    let mut j = i;
-    let mut met: u64 = 0;
-    let mut most: u64 = 0;
-    while j < end {
-        let x = value::truth_at(pool, j, value);
-        let w = table::weight_at(pool, j + gap);
-        met = with_true(met, x, w);
-        most = with_open(most, x, w);
-        j += 1;
+    let mut t = Tally { met: 0, most: 0 };
+    for (i, l) in body.literals.iter().enumerate() {
+        t = t.with(
+            value::truth(value, *l),
+            u64::from(body.weights[i].unsigned_abs()),
+        );
     }
-    Pairs {
-        met: met,
-        most: most,
-    }
+    t
 }
 
 // The number of a body in which no atom has both signs.
-fn plain_number<'a>(pool: &'a [i32], i: usize, k: usize, value: &'a [u8; 1025]) -> u16
-    requires { PairsFormed pool.now (k + 1) i k }
-    ensures { (result ≡ rest_number (body_rest false value.now (nat_abs (get_or pool.now (i + k) (pos 0))) (pairs_at pool.now (k + 1) i k))) × (result ≤ 2) }
+fn plain_number(body: Pairs<'_>, bound: u64, value: &[u8; 1025]) -> u16
+    ensures value { result ≡ rest_number (body_rest false value.now bound (pairs_of body.entry.literals.now body.entry.weights.now)) }
+    ensures small { result ≤ 2 }
 {
-    let bound = table::weight_at(pool, i + k);
-    let t = tally(pool, k + 1, i, k, value);
+    let t = sum(body, value);
     if bound <= t.met {
-        return 0;
+        0
+    } else if bound - t.met <= t.most {
+        1
+    } else {
+        2
     }
-    if bound - t.met <= t.most {
-        return 1;
-    }
-    2
 }
 
 // The number of a body.
-fn body_number<'a>(pool: &'a [i32], rows: &'a [u16], r: usize, value: &'a [u8; 1025]) -> u16
-    requires { RowReadable (bodies pool.now rows.now) r }
-    ensures { (result ≡ rest_number (weighted_rest pool.now value.now (row_at rows.now r))) × (result ≤ 2) }
+fn body_number(pool: &[i32], row: Row, value: &[u8; 1025]) -> u16
+    requires { RowWeighs pool.now row }
+    ensures value { result ≡ rest_number (weighted_rest pool.now value.now row) }
+    ensures small { result ≤ 2 }
 {
-    let kind = number_at(rows, r * 4);
-    let first = number_at(rows, r * 4 + 1);
-    let heads = number_at(rows, r * 4 + 2);
-    let k = table::count_at(rows, r * 4 + 3);
-    if table::is_mixed(kind) {
-        return rest_number(weigh::body_rest(pool, true, first + heads, k, value));
+    if row.body.is_mixed() {
+        rest_number(body_rest(pool, row, value))
+    } else {
+        plain_number(row.pairs(pool), row.bound(pool), value)
     }
-    plain_number(pool, first + heads, k, value)
 }
 
 // Its number.
-pub fn number<'a>(pool: &'a [i32], rows: &'a [u16], r: usize, value: &'a [u8; 1025]) -> u16
-    requires { RowReadable (bodies pool.now rows.now) r }
-    ensures { (result ≡ weigh_number pool.now value.now (row_at rows.now r)) × (result ≤ 4) }
+pub fn number(pool: &[i32], row: Row, value: &[u8; 1025]) -> u16
+    requires { RowWeighs pool.now row }
+    ensures value { result ≡ weigh_number pool.now value.now row }
+    ensures small { result ≤ 4 }
 {
-    let head = rest_number(head_rest(pool, rows, r, value));
-    let body = body_number(pool, rows, r, value);
-    head + body
+    rest_number(head_rest(pool, row, value)) + body_number(pool, row, value)
 }
 
 // How many rules are broken, after one had `old` and has `new`.
@@ -240,7 +223,7 @@ fn renew_at(key: &mut [u16; 2048], r: usize, k: u16, m: Marks) -> Marks
 // The rules at the places `from` to `end` get their numbers.
 fn weigh_all<'a>(
     pool: &'a [i32],
-    rows: &'a [u16],
+    rows: &'a [Row],
     rules: &'a [u16],
     from: usize,
     end: usize,
@@ -252,12 +235,9 @@ fn weigh_all<'a>(
     ensures { counters key.new result ≡ weigh_from (bodies pool.now rows.now) value.now rules.now from (end - from) (counters key.old start) }
 {
     let mut m = start;
-    let mut e = from;
-    while e < end {
-        let r = number_at(rules, e);
-        let k = number(pool, rows, r, value);
-        m = renew_at(key, r, k, m);
-        e += 1;
+    for e in from..end {
+        let r = usize::from(rules[e]);
+        m = renew_at(key, r, number(pool, rows[r], value), m);
     }
     m
 }
@@ -267,15 +247,15 @@ pub fn is_named(starts: &[u16], a: usize) -> bool
     requires { (a ≤ 1024) × (length starts.now ≡ 3076) }
     ensures { result ≡ ltb (get_or starts.now (2050 + a) 0) (get_or starts.now (2050 + a + 1) 0) }
 {
-    let from = number_at(starts, 2050 + a);
-    let end = number_at(starts, 2050 + a + 1);
+    let from = usize::from(starts[2050 + a]);
+    let end = usize::from(starts[2050 + a + 1]);
     from < end
 }
 
 // The value of the atom a has changed: the rules that name it get their numbers.
 pub fn reweigh<'a>(
     pool: &'a [i32],
-    rows: &'a [u16],
+    rows: &'a [Row],
     starts: &'a [u16],
     rules: &'a [u16],
     a: usize,
@@ -286,7 +266,7 @@ pub fn reweigh<'a>(
     requires { Fit (bodies pool.now rows.now) (index starts.now rules.now) value.now key.old × (a ≤ 1024) }
     ensures { counters key.new result ≡ weigh_of (bodies pool.now rows.now) (index starts.now rules.now) a value.now (counters key.old m) }
 {
-    let from = number_at(starts, 2050 + a);
-    let end = number_at(starts, 2050 + a + 1);
+    let from = usize::from(starts[2050 + a]);
+    let end = usize::from(starts[2050 + a + 1]);
     weigh_all(pool, rows, rules, from, end, value, key, m)
 }

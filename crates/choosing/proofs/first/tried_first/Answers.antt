@@ -1,5 +1,5 @@
-use Rattle.choosing.proofs.FirstLaws.{first_tried}
 use borrow.Author.Rules.{rules}
+use Rattle.choosing.proofs.FirstLaws.{first_tried}
 use Rattle.choosing.proofs.first.tried_first.Goals as goal
 
 pub returns : goal.returns

@@ -1,12 +1,16 @@
-use Rattle.counting.proofs.NumberCode.{head_chosen, head_none, head_one}
 use borrow.Author.Rules.{rules}
+use Rattle.asp.specs.Tables.{is_choice}
+use Rattle.counting.proofs.NumberCode.{head_chosen, head_none, head_one}
 use Rattle.counting.proofs.weigh.head_rest.Goals as goal
 
-pub returns-then-is_choice : goal.returns-then-is_choice
-returns-then-is_choice c = search (head_chosen, rules)
+pub returns-in-Choice : goal.returns-in-Choice
+unfolding is_choice
+returns-in-Choice c = head_chosen c.args.pool.now c.args.row c.args.value.now (rw c.in-Choice.is)
 
-pub returns-then-heads-eq0 : goal.returns-then-heads-eq0
-returns-then-heads-eq0 c = search (head_none, rules)
+pub returns-in-Plain : goal.returns-in-Plain
+unfolding is_choice
+returns-in-Plain c = head_none c.args.pool.now c.args.row c.args.value.now (rw c.in-Plain.is) c.if-row-eq0.true
 
-pub returns : goal.returns
-returns c = search (head_one, rules)
+pub returns-in-Plain-2 : goal.returns-in-Plain-2
+unfolding is_choice
+returns-in-Plain-2 c = head_one c.args.pool.now c.args.row c.args.value.now c.requires (rw c.in-Plain.is) c.if-row-eq0.false (rw (c.from-first.ensures, c.from.ensures) at c.meet_at.ensures)

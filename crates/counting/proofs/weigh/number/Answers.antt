@@ -1,7 +1,5 @@
-use native.Mathlib.Omega.{arith}
 use Rattle.counting.proofs.NumberCode.{number_is}
-use borrow.Author.Rules.{rules}
 use Rattle.counting.proofs.weigh.number.Goals as goal
 
-pub returns : goal.returns
-returns c = (search (number_is, rules), omega arith)
+pub returns-clause-value : goal.returns-clause-value
+returns-clause-value c = number_is c.args.pool.now c.args.row c.args.value.now c.head_rest.ensures c.rest_number.ensures.value c.body_number.ensures.value

@@ -6,7 +6,7 @@ use Rattle.asp.proofs.rules.Row.pairs.Goals as goal
 pub invariant_of-result : goal.invariant_of-result
 invariant_of-result c =
     rw (c.body_literals-literals.ensures, c.part-weights.ensures, c.from.ensures, c.from-2.ensures, c.from-3.ensures, c.from-4.ensures)
-    (record { formed = row_pairs_formed c.requires.formed c.requires.weighted (omega (arith, c.from-4.type_inv)) })
+    (record { formed = row_pairs_formed c.requires (omega (arith, c.from-4.type_inv)) })
 
 pub returns : goal.returns
 returns c =
