@@ -10,6 +10,7 @@ use lib.Dec.{eqb, ltb}
 use lib.IntN.{ℤ, pos, nat_abs}
 use lib.ListN.{length, get_or}
 use borrow.Author.Tests.{eqb-true, eqb-false, ltb-true, ltb-false, eq-eqb, ne_eqb}
+use Rattle.asp.specs.declared.rules.Row.{Row}
 use Rattle.asp.specs.Sets.{pick, ind}
 use Rattle.asp.specs.Literal.{same_ℤ}
 use Rattle.asp.specs.Tables.{span, is_choice, is_weighted}
@@ -24,7 +25,7 @@ use Rattle.search.specs.Weigh.{both_rest}
 use Rattle.search.proofs.ScanLaws.{off_stays}
 use Rattle.counting.specs.declared.counters.Marks.{Marks}
 use Rattle.counting.specs.Counters.{counters, marks, bodies}
-use Rattle.counting.specs.Moves.{RowReadable}
+use Rattle.counting.specs.Moves.{RowWeighs}
 use Rattle.counting.specs.Counts.{MarksRight, Tells, Told, NoneBelow, NoneIn, SpotSays, spotted_of, Spotted}
 use Rattle.counting.proofs.Sums.{sum_part, sum_none}
 
@@ -133,25 +134,22 @@ row_all : (v : List ℕ) (pool : List ℤ) (s : Rest) (b c d : ℕ) → meets v 
 row_all v pool s b c d = let q : b + c + d - b ≡ c + d = omega arith in rw q
 
 module _ (g : Rules) (r : ℕ) where
-  kind_is : {n : ℕ} {u b : Bool} → n ≡ get_or g.rows (r * 4 + 0) 0 → u ≡ is_weighted n → u ≡ b → is_weighted (row_of g r).body ≡ b
-  kind_is en eu q = let z : r * 4 + 0 ≡ r * 4 = omega arith in rw (← rw z at en, ← eu) q
-
-  pub weighted_row : Readable g → r < g.count → {n : ℕ} {u : Bool} → n ≡ get_or g.rows (r * 4 + 0) 0 → u ≡ is_weighted n → u ≡ true → RowReadable (bodies g.pool g.rows) r
-  weighted_row f c eq eu tu =
-      let z : is_weighted (row_of g r).body ≡ true = kind_is eq eu tu in
-      record { long = omega (arith, f.long); weighted = z; single = f.single r c; inside = f.weighed r c z; small = f.small r c }
+  pub weighted_row : Readable g → r < g.count → {u : Bool} → u ≡ is_weighted (row_of g r).body → u ≡ true → RowWeighs g.pool (row_of g r)
+  weighted_row f c eu tu =
+      let z : is_weighted (row_of g r).body ≡ true = sym eu ∙ tu in
+      record { weighted = z; single = f.single r c; inside = f.weighed r c z; small = f.small r c }
 
 module _ (g : Rules) (v key : List ℕ) (w r : ℕ) where
   short : Told g v key → w ≤ 1 → r < g.count → get_or key r 0 ≡ w → rest_of g v r ≡ Off → ⊥
   short t l h e = not_off (rest_of g v r) (get_or key r 0) (t.each r h) (omega arith)
 
-  pub inner_start : Readable g → Told g v key → w ≤ 1 → r < g.count → {n : ℕ} {u : Bool} → n ≡ get_or g.rows (r * 4 + 0) 0 → u ≡ is_weighted n → u ≡ false → {x : Bool} → x ≡ pick (eqb (get_or key r 0) w) false true → x ≡ false
+  pub inner_start : Readable g → Told g v key → w ≤ 1 → r < g.count → {u : Bool} → u ≡ is_weighted (row_of g r).body → u ≡ false → {x : Bool} → x ≡ pick (eqb (get_or key r 0) w) false true → x ≡ false
       → {k h b : ℕ} → k ≡ (row_of g r).first → h ≡ (row_of g r).heads → b ≡ (row_of g r).literals → Inner g v r (k + h) (k + h + b) k
-  inner_start f t l c eq eu fu e q ek eh eb = rw (ek, eh, eb) (record {
+  inner_start f t l c eu fu e q ek eh eb = rw (ek, eh, eb) (record {
     inside = f.inside r c;
     last = refl;
     from = omega arith;
-    rest = row_all v g.pool All (row_of g r).first (row_of g r).heads (row_of g r).literals ∙ normal (is_weighted (row_of g r).body) (kind_is g r eq eu fu) (short t l c (here key w r e q));
+    rest = row_all v g.pool All (row_of g r).first (row_of g r).heads (row_of g r).literals ∙ normal (is_weighted (row_of g r).body) (sym eu ∙ fu) (short t l c (here key w r e q));
   })
     where
       go : (b : Bool) → is_choice (row_of g r).head ≡ b → (meets v (pick b Off All) (conditions g.pool (row_of g r)) ≡ Off → ⊥) → meets v All (conditions g.pool (row_of g r)) ≡ meets v (pick b Off All) (conditions g.pool (row_of g r))
@@ -164,12 +162,12 @@ module _ (g : Rules) (v key : List ℕ) (w r : ℕ) where
       normal false z n = go (is_choice (row_of g r).head) refl n
 
   -- order 2: a rule with a weighted body
-  pub weighted_here : Told g v key → w ≤ 1 → {found : Found} → Outer g v key w found r → r < g.count → {n : ℕ} {u : Bool} → n ≡ get_or g.rows (r * 4 + 0) 0 → u ≡ is_weighted n → u ≡ true → {x : Bool} → x ≡ pick (eqb (get_or key r 0) w) false true → x ≡ false
+  pub weighted_here : Told g v key → w ≤ 1 → {found : Found} → Outer g v key w found r → r < g.count → {u : Bool} → u ≡ is_weighted (row_of g r).body → u ≡ true → {x : Bool} → x ≡ pick (eqb (get_or key r 0) w) false true → x ≡ false
       → {s : Rest} → s ≡ both_rest (head_rest g.pool v (row_of g r)) (weighted_rest g.pool v (row_of g r)) → {f : Found} → f ≡ spotted_of s r → Spotted g v key w f r
-  weighted_here t l o c eq eu tu e q {s} es ef = rw ef (record { below = o.below; says = go s (rest ∙ sym es) })
+  weighted_here t l o c eu tu e q {s} es ef = rw ef (record { below = o.below; says = go s (rest ∙ sym es) })
     where
       rest : rest_of g v r ≡ both_rest (head_rest g.pool v (row_of g r)) (weighted_rest g.pool v (row_of g r))
-      rest = let z : is_weighted (row_of g r).body ≡ true = kind_is g r eq eu tu in rw z
+      rest = let z : is_weighted (row_of g r).body ≡ true = sym eu ∙ tu in rw z
 
       number : get_or key r 0 ≡ w
       number = here key w r e q
@@ -269,8 +267,8 @@ clear_here o h = rw o.clear (record { below = o.below; says = h })
 -- ---- what the calls and sums ask
 
 module _ (g : Rules) {r : ℕ} where
-  pub row_in : (j : ℕ) → Readable g → r < g.count → j < 4 → r * 4 + j < length g.rows
-  row_in j f h l = omega (arith, f.long)
+  pub row_in : Readable g → r < g.count → r < length g.rows
+  row_in f h = omega (arith, f.long)
 
 module _ (g : Rules) {r k h : ℕ} where
   pub mid_in_lem : Readable g → r < g.count → length g.pool < 2 ^ 64 → k ≡ (row_of g r).first → h ≡ (row_of g r).heads → Fits w64 (k + h)
@@ -279,7 +277,7 @@ module _ (g : Rules) {r k h : ℕ} where
   pub end_in : {b : ℕ} → Readable g → r < g.count → length g.pool < 2 ^ 64 → k ≡ (row_of g r).first → h ≡ (row_of g r).heads → b ≡ (row_of g r).literals → Fits w64 (k + h + b)
   end_in f l z ek eh eb = omega (arith, f.inside r l)
 
-module _ {pool : List ℤ} {rows : List ℕ} {count : ℕ} {v : List ℕ} {r mid end k : ℕ} where
+module _ {pool : List ℤ} {rows : List Row} {count : ℕ} {v : List ℕ} {r mid end k : ℕ} where
   pub place_in : Inner (rules pool rows count) v r mid end k → k < end → k < length pool
   place_in i h = omega (arith, i.inside)
 
@@ -381,7 +379,7 @@ start_passed {count} {key} {m} k e q = rw (e, q) (go (eqb m.broken 0))
     go true = record { passed = λ j l c z. absurd (omega (arith, k.low j l c)) }
     go false = record { passed = λ j l c z. absurd (omega (arith, k.zero j l c)) }
 
-pub low_next : {pool : List ℤ} {rows : List ℕ} {count : ℕ} {v key : List ℕ} {m : Marks} → Told (rules pool rows count) v key → MarksRight count (counters key m) → {w r : ℕ} {f : Found} → Spotted (rules pool rows count) v key w f r → w ≡ pick (eqb m.broken 0) 1 0
+pub low_next : {pool : List ℤ} {rows : List Row} {count : ℕ} {v key : List ℕ} {m : Marks} → Told (rules pool rows count) v key → MarksRight count (counters key m) → {w r : ℕ} {f : Found} → Spotted (rules pool rows count) v key w f r → w ≡ pick (eqb m.broken 0) 1 0
     → {x : ℕ} → x ≡ pick (eqb m.broken 0) r m.low → {z : ℕ} → z ≡ pick (eqb m.broken 0) count r → {b : ℕ} → b ≡ m.broken → {a : ℕ} → MarksRight count (counters key (marks b x z a))
 low_next {pool} {rows} {count} {v} {key} {m} t k s e ex ez eb = rw eb (low_done (rules pool rows count) v key m t k e s ex ez)
 

@@ -58,10 +58,7 @@ indexed_weighable {g} {o} i f = record {
       let w : is_weighted (row_of g (get_or o.rules e 0)).body ≡ true = i.bodied (get_or o.rules e 0) a c h (some a e p q) in
       record {
         long = omega (arith, f.long);
-        weighted = w;
-        single = f.single (get_or o.rules e 0) c;
-        inside = f.weighed (get_or o.rules e 0) c w;
-        small = f.small (get_or o.rules e 0) c;
+        row = record { weighted = w; single = f.single (get_or o.rules e 0) c; inside = f.weighed (get_or o.rules e 0) c w; small = f.small (get_or o.rules e 0) c };
       };
 }
   where
@@ -70,7 +67,7 @@ indexed_weighable {g} {o} i f = record {
         let y = sum_part (λ x. ind (eqb (get_or o.rules x 0) (get_or o.rules e 0))) e (first o (2050 + a)) (list_length o (2050 + a)) p q in
         omega (arith, rw (eq-eqb (get_or o.rules e 0) (get_or o.rules e 0) refl) at y)
 
-module _ {pool : List ℤ} {rows starts lists : List ℕ} {count : ℕ} {v key : List ℕ} {m : Marks} where
+module _ {pool : List ℤ} {rows : List Row} {starts lists : List ℕ} {count : ℕ} {v key : List ℕ} {m : Marks} where
   pub counted_told : Indexed (rules pool rows count) (index starts lists) → Tracks (rules pool rows count) (index starts lists) v (counters key m) → Told (rules pool rows count) v key
   counted_told i k = told (rules pool rows count) (index starts lists) i v (counters key m) k
 
@@ -86,7 +83,7 @@ module _ {pool : List ℤ} {rows starts lists : List ℕ} {count : ℕ} {v key :
   pub counted_fit : Indexed (rules pool rows count) (index starts lists) → Tracks (rules pool rows count) (index starts lists) v (counters key m) → {ls : List ℤ} {ms : List ℕ} {len : ℕ} → Good (places ls ms v len) → {n : ℕ} → Formed n pool rows count → Fit (bodies pool rows) (index starts lists) v key
   counted_fit i k g {n} f = record { weighable = indexed_weighable i (readable n pool rows count f); shaped = i.shaped; value_len = g.value_len; key_len = k.marked.long }
 
-pub indexed_few : {pool : List ℤ} {rows : List ℕ} {count : ℕ} {o : Index} → Indexed (rules pool rows count) o → count ≤ 2048
+pub indexed_few : {pool : List ℤ} {rows : List Row} {count : ℕ} {o : Index} → Indexed (rules pool rows count) o → count ≤ 2048
 indexed_few i = i.few
 
 -- ---- the trail after a move is the one of the machine
@@ -143,7 +140,7 @@ module _ {g : Rules} {o : Index} (t : Places) (y : Counters) where
 pub counted_same : {g : Rules} {o : Index} {v key : List ℕ} {m m₁ : Marks} → Tracks g o v (counters key m) → m₁ ≡ m → Tracks g o v (counters key m₁)
 counted_same k e = rw e k
 
-pub counted_open : {pool : List ℤ} {rows : List ℕ} {count n : ℕ} {o : Index} {s : AssumedEntries} {ls : List ℤ} {ms v : List ℕ} {len : ℕ} {y : Counters} {x : Tested} → Formed n pool rows count → FormedSoft n s → Indexed (rules pool rows count) o → Good (places ls ms v len)
+pub counted_open : {pool : List ℤ} {rows : List Row} {count n : ℕ} {o : Index} {s : AssumedEntries} {ls : List ℤ} {ms v : List ℕ} {len : ℕ} {y : Counters} {x : Tested} → Formed n pool rows count → FormedSoft n s → Indexed (rules pool rows count) o → Good (places ls ms v len)
     → x ≡ test_of (rules pool rows count) n s v len → Tracks (rules pool rows count) o v y → {l : ℤ} → x ≡ Open l
     → {ls₁ : List ℤ} {ms₁ v₁ : List ℕ} {k₁ : ℕ} {y₁ : Counters} → counted_trail (places ls₁ ms₁ v₁ k₁) y₁ ≡ put_all (bodies pool rows) o (to_z w32 (of_z w32 l)) 1 (counted_trail (places ls ms v len) y) → Tracks (rules pool rows count) o v₁ y₁
 counted_open {pool} {rows} {count} {n} {o} {s} {ls} {ms} {v} {len} {y} f w i g e k {l} q z = counted_push (places ls ms v len) y i g k (to_z w32 (of_z w32 l)) (open_small pool rows count n s v len f w e q) z

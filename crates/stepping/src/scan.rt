@@ -5,15 +5,14 @@ ghost use Rattle.search.specs.Scan.{rules, Readable, cond_at, meet_of, note_of, 
 ghost use Rattle.counting.specs.Counters.{counters, marks};
 ghost use Rattle.counting.specs.Counts.{Told, MarksRight, NoneBelow, NoneIn, spotted_of, Spotted};
 
-use asp::table;
-use asp::table::number_at;
+use asp::rules::Row;
 use counting::counters::Marks;
 use counting::weigh;
 use search::scan;
 use search::scan::{Found, Rest};
 
 // What the scan finds; a rule below which all numbers are 2 or more, and one below which none is 0.
-#[derive(Clone, Copy)]
+#[derive(Clone, Copy, PartialEq, Eq, Debug)]
 pub struct ScanDone {
     pub found: Found,
     pub low: usize,
@@ -24,49 +23,34 @@ pub struct ScanDone {
 fn sought(broken: usize) -> u16
     ensures { result ≡ pick (eqb broken 0) 1 0 }
 {
-    if broken == 0 {
-        return 1;
-    }
-    0
+    u16::from(broken == 0)
 }
 
 // Where the scan starts.
 fn start(m: Marks) -> usize
     ensures { result ≡ pick (eqb m.broken 0) m.low m.zero }
 {
-    if m.broken == 0 {
-        return m.low;
-    }
-    m.zero
+    if m.broken == 0 { m.low } else { m.zero }
 }
 
 fn lowest(m: Marks, r: usize) -> usize
     ensures { result ≡ pick (eqb m.broken 0) r m.low }
 {
-    if m.broken == 0 {
-        return r;
-    }
-    m.low
+    if m.broken == 0 { r } else { m.low }
 }
 
 // Where no rule is broken none has 0; else rule r is the first.
 fn lowest_zero(m: Marks, count: usize, r: usize) -> usize
     ensures { result ≡ pick (eqb m.broken 0) count r }
 {
-    if m.broken == 0 {
-        return count;
-    }
-    r
+    if m.broken == 0 { count } else { r }
 }
 
 fn differs(key: &[u16; 2048], r: usize, x: u16) -> bool
     requires { (r < 2048) × (length key.now ≡ 2048) }
     ensures { result ≡ pick (eqb (get_or key.now r 0) x) false true }
 {
-    if key[r] == x {
-        return false;
-    }
-    true
+    key[r] != x
 }
 
 // Whether the numbers of so many rules are all others than x. There is no branch for each, so that the compiler compares them side by side.
@@ -143,16 +127,8 @@ fn spotted(rest: Rest, r: usize) -> Found
     }
 }
 
-// The number at place j of row r.
-fn number(rows: &[u16], r: usize, j: usize) -> usize
-    requires { r * 4 + j < length rows.now }
-    ensures { result ≡ get_or rows.now (r * 4 + j) 0 }
-{
-    number_at(rows, r * 4 + j)
-}
-
 // What the scan found, and the rule at which it was left.
-#[derive(Clone, Copy)]
+#[derive(Clone, Copy, PartialEq, Eq, Debug)]
 pub struct Spot {
     pub found: Found,
     pub rule: usize,
@@ -161,7 +137,7 @@ pub struct Spot {
 // The scan for the first rule with the number `want`, from `start` on.
 fn first_with<'a>(
     pool: &'a [i32],
-    rows: &'a [u16],
+    rows: &'a [Row],
     count: usize,
     key: &'a [u16; 2048],
     want: u16,
@@ -183,13 +159,14 @@ fn first_with<'a>(
             r += 1;
             continue 'rules;
         }
-        if table::is_weighted(number(rows, r, 0)) {
-            found = spotted(weigh::rest(pool, rows, r, value), r);
+        let row = rows[r];
+        if row.body.is_weighted() {
+            found = spotted(weigh::rest(pool, row, value), r);
             break 'rules;
         }
-        let first = number(rows, r, 1);
-        let mid = first + number(rows, r, 2);
-        let end = mid + number(rows, r, 3);
+        let first = usize::from(row.first);
+        let mid = first + usize::from(row.heads);
+        let end = mid + usize::from(row.literals);
         let mut k = first;
         loop {
             if end <= k {
@@ -197,7 +174,7 @@ fn first_with<'a>(
                 break 'rules;
             }
             let rest = left_at(pool, value, mid, k);
-            if scan::all(rest) {
+            if rest.is_all() {
                 k += 1;
                 continue;
             }
@@ -205,16 +182,13 @@ fn first_with<'a>(
             break 'rules;
         }
     }
-    Spot {
-        found: found,
-        rule: r,
-    }
+    Spot { found, rule: r }
 }
 
 // The scan of the rules under the values of a trail, by their numbers.
 pub fn scan<'a>(
     pool: &'a [i32],
-    rows: &'a [u16],
+    rows: &'a [Row],
     count: usize,
     key: &'a [u16; 2048],
     m: Marks,
@@ -225,9 +199,8 @@ pub fn scan<'a>(
 {
     let want = sought(m.broken);
     let s = first_with(pool, rows, count, key, want, start(m), value);
-    let found = s.found;
     ScanDone {
-        found: found,
+        found: s.found,
         low: lowest(m, s.rule),
         zero: lowest_zero(m, count, s.rule),
     }

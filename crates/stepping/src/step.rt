@@ -11,6 +11,7 @@ ghost use Rattle.counting.specs.Counters.{index, counters, marks};
 ghost use Rattle.counting.specs.Counts.{Tracks, Indexed, Told, MarksRight};
 
 use crate::{scan, trail};
+use asp::rules::Row;
 use counting::counters::Marks;
 use search::scan::Found;
 use search::step::Tested;
@@ -51,17 +52,16 @@ fn test_by<'a>(
 {
     match found {
         Found::Broken(r) => Tested::RuleBroken(r),
-        Found::Breaker(_) => step::test_unbroken(
+        Found::Breaker(_) | Found::Clear => step::test_unbroken(
             found, n, tried, wished, blamed, count, value, len, a,
         ),
-        Found::Clear => step::test_unbroken(found, n, tried, wished, blamed, count, value, len, a),
     }
 }
 
 // The test of a trail of length len.
 fn test<'a>(
     pool: &'a [i32],
-    rows: &'a [u16],
+    rows: &'a [Row],
     rulecount: usize,
     starts: &'a [u16],
     lists: &'a [u16],
@@ -81,16 +81,15 @@ fn test<'a>(
     ensures { (result.tested ≡ test_of (rules pool.now rows.now rulecount) n (assumed_entries wished.now blamed.now count (set_of tried.now)) value.now len) × Tracks (rules pool.now rows.now rulecount) (index starts.now lists.now) value.now (counters key.now result.marks) }
 {
     let s = scan::scan(pool, rows, rulecount, key, m, value);
-    let found = s.found;
     let a = branch::lowest(value, n, m.atom);
-    let t = test_by(found, n, tried, wished, blamed, count, value, len, a);
+    let t = test_by(s.found, n, tried, wished, blamed, count, value, len, a);
     Examined {
         tested: t,
         marks: Marks {
-            broken: m.broken,
             low: s.low,
             zero: s.zero,
             atom: a,
+            ..m
         },
     }
 }
@@ -98,7 +97,7 @@ fn test<'a>(
 // One step: the test, then the move that it asks for. A full trail stays, for the caller to judge.
 pub fn step<'a>(
     pool: &'a [i32],
-    rows: &'a [u16],
+    rows: &'a [Row],
     rulecount: usize,
     starts: &'a [u16],
     lists: &'a [u16],
@@ -128,11 +127,10 @@ pub fn step<'a>(
     match t {
         Tested::RuleBroken(_) => {
             let k = trail::back(pool, rows, starts, lists, lits, signs, value, key, len, q);
-            let after = k.marks;
             AfterStep {
                 tested: t,
                 len: k.len,
-                marks: after,
+                marks: k.marks,
             }
         }
         Tested::Full => AfterStep {
@@ -142,22 +140,20 @@ pub fn step<'a>(
         },
         Tested::SoftViolated(_) => {
             let k = trail::back(pool, rows, starts, lists, lits, signs, value, key, len, q);
-            let after = k.marks;
             AfterStep {
                 tested: t,
                 len: k.len,
-                marks: after,
+                marks: k.marks,
             }
         }
         Tested::Open(l) => {
             let k = trail::push(
                 pool, rows, starts, lists, lits, signs, value, key, len, l, q,
             );
-            let after = k.marks;
             AfterStep {
                 tested: t,
                 len: k.len,
-                marks: after,
+                marks: k.marks,
             }
         }
     }

@@ -5,6 +5,7 @@ ghost use Rattle.counting.specs.Counters.{index, counters, bodies};
 ghost use Rattle.counting.specs.Moves.{counted_trail, Fit, put_all, push_all, drop_all, back_all};
 
 use asp::literal;
+use asp::rules::Row;
 use counting::counters::Marks;
 use counting::{counters, weigh};
 use search::{trail, value};
@@ -19,7 +20,7 @@ pub struct Moved {
 // A literal is added, with its mark.
 fn put<'a>(
     pool: &'a [i32],
-    rows: &'a [u16],
+    rows: &'a [Row],
     starts: &'a [u16],
     rules: &'a [u16],
     lits: &mut [i32; 1024],
@@ -42,17 +43,16 @@ fn put<'a>(
     if !weigh::is_named(starts, a) {
         return Moved { len: k, marks: z };
     }
-    let after = weigh::reweigh(pool, rows, starts, rules, a, value, key, z);
     Moved {
         len: k,
-        marks: after,
+        marks: weigh::reweigh(pool, rows, starts, rules, a, value, key, z),
     }
 }
 
 // On an open trail: a literal is added as a decision.
 pub fn push<'a>(
     pool: &'a [i32],
-    rows: &'a [u16],
+    rows: &'a [Row],
     starts: &'a [u16],
     rules: &'a [u16],
     lits: &mut [i32; 1024],
@@ -82,7 +82,7 @@ pub struct Taken {
 // The literal at k, the last, is taken away.
 fn take<'a>(
     pool: &'a [i32],
-    rows: &'a [u16],
+    rows: &'a [Row],
     starts: &'a [u16],
     rules: &'a [u16],
     lits: &mut [i32; 1024],
@@ -106,17 +106,16 @@ fn take<'a>(
             marks: x,
         };
     }
-    let after = weigh::reweigh(pool, rows, starts, rules, a, value, key, x);
     Taken {
         literal: t,
-        marks: after,
+        marks: weigh::reweigh(pool, rows, starts, rules, a, value, key, x),
     }
 }
 
 // On a conflict: cut after the last decision, which is replaced by its complement, flipped. The length is 0 where there was no decision.
 pub fn back<'a>(
     pool: &'a [i32],
-    rows: &'a [u16],
+    rows: &'a [Row],
     starts: &'a [u16],
     rules: &'a [u16],
     lits: &mut [i32; 1024],

@@ -5,4 +5,4 @@ pub returns-then-not-is_named : goal.returns-then-not-is_named
 returns-then-not-is_named c = put_done _ _ _ _ _ _ c.requires.len_bound.1 c.atom-a.ensures c.side-s.ensures c.assign-z.ensures c.put-k.ensures (unnamed _ _ _ _ c.is_named.ensures (c.if-not-is_named.true) _ _)
 
 pub returns : goal.returns
-returns c = put_done _ _ _ _ _ _ c.requires.len_bound.1 c.atom-a.ensures c.side-s.ensures c.assign-z.ensures c.put-k.ensures c.reweigh-after.ensures
+returns c = put_done _ _ _ _ _ _ c.requires.len_bound.1 c.atom-a.ensures c.side-s.ensures c.assign-z.ensures c.put-k.ensures c.reweigh.ensures
