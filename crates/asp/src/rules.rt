@@ -108,6 +108,14 @@ impl<'a> Pairs<'a> {
 }
 
 impl Row {
+    // Where its body begins in the pool.
+    pub fn body_first(self) -> usize
+        ensures value { result ≡ self.first + self.heads }
+        ensures small { result < 131072 }
+    {
+        usize::from(self.first) + usize::from(self.heads)
+    }
+
     // Its head atoms, as literals.
     pub fn head_atoms(self, pool: &[i32]) -> &[i32]
         requires { self.first + self.heads ≤ length pool.now }
@@ -121,8 +129,7 @@ impl Row {
         requires { self.first + self.heads + self.literals ≤ length pool.now }
         ensures { result.now ≡ literals_at pool.now (self.first + self.heads) self.literals }
     {
-        let first = usize::from(self.first) + usize::from(self.heads);
-        part(pool, first, usize::from(self.literals))
+        part(pool, self.body_first(), usize::from(self.literals))
     }
 
     // The bound of its weighted body.
@@ -131,7 +138,7 @@ impl Row {
         ensures bound { result ≡ bound_at pool.now self }
         ensures small { result < 4294967296 }
     {
-        let at = usize::from(self.first) + usize::from(self.heads) + usize::from(self.literals);
+        let at = self.body_first() + usize::from(self.literals);
         u64::from(pool[at].unsigned_abs())
     }
 
@@ -141,7 +148,7 @@ impl Row {
         ensures { pairs_of result.literals.now result.weights.now ≡ row_pairs pool.now self }
     {
         let literals = self.body_literals(pool);
-        let at = usize::from(self.first) + usize::from(self.heads) + usize::from(self.literals) + 1;
+        let at = self.body_first() + usize::from(self.literals) + 1;
         let weights = part(pool, at, usize::from(self.literals));
         Pairs { literals, weights }
     }

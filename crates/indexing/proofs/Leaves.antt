@@ -15,8 +15,7 @@ use Rattle.asp.specs.Sets.{Set, Sub, In, set_of, pick, same, ind}
 use Rattle.asp.specs.Program.{Weighed, All, LiteralIn}
 use Rattle.asp.specs.Stable.{holds, holds_in, all_hold, counts, body_holds, member, head_adds, rule_adds, adds, constraint_fails, any_violated, Stable, closure, is_stable}
 use Rattle.asp.specs.Tables.{span, named, literals_at, atoms_at, is_choice, is_weighted, is_mixed, pairs_at, bound_at, row_at, head_at, rule_at, rules_of, Formed}
-use Rattle.asp.proofs.Pairs.{body_weighted, body_normal}
-use Rattle.asp.proofs.Rules.{head_choice, head_none, head_plain}
+use Rattle.asp.proofs.RowLaws.{body_weighted, body_normal, head_choice, head_none, head_plain}
 use Rattle.asp.proofs.Stability.{stable_yes, closure_least, rule_mono, head_in}
 use Rattle.asp.specs.Growth.{KeptBy}
 use Rattle.asp.proofs.Growing.{grown_none}
@@ -230,7 +229,7 @@ module _ (n : ℕ) (pool : List ℤ) (rows : List Row) (count : ℕ) (form : For
           go : (x : Bool) → ltb p.at (W.first + W.heads) ≡ x → truth_at v l ≡ 1
           go true e =
               let u = lo_plain G leaf.readied r c plain-rule in
-              let z : p.at ≡ W.b = omega (arith, p.from, ltb-true p.at (W.first + W.heads) e) in
+              let z : p.at ≡ W.first = omega (arith, p.from, ltb-true p.at (W.first + W.heads) e) in
               absurd (m (sym p.is ∙ ap (cond_at pool (W.first + W.heads)) z ∙ cond_head))
           go false e = in_body l p (ltb-false p.at (W.first + W.heads) e)
 
@@ -324,7 +323,7 @@ module _ (n : ℕ) (pool : List ℤ) (rows : List Row) (count : ℕ) (form : For
       go false e (suc b) j k p =
           let m : is_choice (row_at rows r).head ≡ false = e in
           let s = (form.row r c).single m in
-          let z : p.at ≡ (row_at rows r).b = omega (arith, p.from, p.to) in
+          let z : p.at ≡ (row_at rows r).first = omega (arith, p.from, p.to) in
           let y : (row_at rows r).heads ≡ 1 = omega (arith, p.from, p.to) in
           let x : named (get_or pool (row_at rows r).first (pos 0)) ≡ suc b = rw z at p.is in
           key_plain r c both.0 b m y (sym (named_is n (get_or pool (row_at rows r).first (pos 0)) (rw x j)) ∙ ap pos x) k (omega (arith, j.1, form.few))
@@ -402,7 +401,7 @@ module _ (n : ℕ) (pool : List ℤ) (rows : List Row) (count : ℕ) (form : For
           each : is_weighted (row_at rows r).body ≡ false → (l : ℤ) (k : StandsAt G leaf.readied r c l) → (b : Bool) → ltb k.at ((row_at rows r).first + (row_at rows r).heads) ≡ b → truth_at v l ≡ 1
           each nw l k true e =
               let w = lo_plain G leaf.readied r c m in
-              let z : k.at ≡ (row_at rows r).b = omega (arith, k.from, ltb-true k.at ((row_at rows r).first + (row_at rows r).heads) e) in
+              let z : k.at ≡ (row_at rows r).first = omega (arith, k.from, ltb-true k.at ((row_at rows r).first + (row_at rows r).heads) e) in
               let y : cond_at pool ((row_at rows r).first + (row_at rows r).heads) (row_at rows r).first ≡ negsuc a = rw (lt-ltb (row_at rows r).first ((row_at rows r).first + (row_at rows r).heads) (omega arith), hd) in
               let x : l ≡ negsuc a = sym k.is ∙ ap (cond_at pool ((row_at rows r).first + (row_at rows r).heads)) z ∙ y in
               rw x (holds_true n v leaf.whole small (negsuc a) i u)
@@ -424,7 +423,7 @@ module _ (n : ℕ) (pool : List ℤ) (rows : List Row) (count : ℕ) (form : For
       go false e false q =
           let m : is_choice (row_at rows r).head ≡ false = e in
           let s = (form.row r c).single m in
-          let z : hd.at ≡ (row_at rows r).b = omega (arith, hd.from, hd.to) in
+          let z : hd.at ≡ (row_at rows r).first = omega (arith, hd.from, hd.to) in
           let y : (row_at rows r).heads ≡ 1 = omega (arith, hd.from, hd.to) in
           let x : named (get_or pool (row_at rows r).first (pos 0)) ≡ a = rw z at hd.is in
           let i : In n a = head_in n M (head_at pool (row_at rows r)) (rule_in n pool rows count form r c).0 a both.1 in

@@ -9,6 +9,7 @@ use lib.Dec.{eqb, leb, eqb→eq}
 use lib.IntN.{ℤ, nat_abs}
 use lib.ListN.{get_or, replicate}
 use borrow.Author.Tests.{eqb-true, eqb-false, leb-true}
+use Rattle.asp.specs.declared.rules.Row.{Row}
 use Rattle.asp.specs.Sets.{In, pick}
 use Rattle.search.specs.declared.trail.Places.{Places}
 use Rattle.search.specs.Places.{places, Good, SoundTrail, side_of, value_on, trail_of, back_of}
@@ -49,7 +50,7 @@ module _ {g : Rules} {o h : Index} {v : List ℕ} {t : Counters} (x : Equipped g
   pub equipped_after : {v₁ : List ℕ} {t₁ : Counters} → Tracks g o v₁ t₁ → Equipped g o h v₁ t₁
   equipped_after k = record { readied = x.readied; conditions = x.conditions; heads = x.heads; counted = k }
 
-module _ {pool : List ℤ} {rows : List ℕ} {count : ℕ} {starts lists : List ℕ} {h : Index} {v key : List ℕ} {m : Marks} (x : Equipped (rules pool rows count) (index starts lists) h v (counters key m)) where
+module _ {pool : List ℤ} {rows : List Row} {count : ℕ} {starts lists : List ℕ} {h : Index} {v key : List ℕ} {m : Marks} (x : Equipped (rules pool rows count) (index starts lists) h v (counters key m)) where
   pub equipped_fit : {ls : List ℤ} {ms : List ℕ} {len : ℕ} → Good (places ls ms v len) → Fit (bodies pool rows) (index starts lists) v key
   equipped_fit f = record { weighable = indexed_weighable (equipped_indexed x) x.readied.readable; shaped = x.conditions.shaped; value_len = f.value_len; key_len = x.counted.marked.long }
 
@@ -153,7 +154,7 @@ full_says n s v len (Breaker l) u = (full_long n s v len (Breaker l) u, λ k. k)
 full_says n s v len Clear u = (full_long n s v len Clear u, λ k. k)
 
 -- A full trail that the test leaves to the judge is a leaf.
-module _ {n : ℕ} {pool : List ℤ} {rows : List ℕ} {count : ℕ} (s : AssumedEntries) (t : Places) {t₁ : Places} {o h : Index} {y : Counters} {x : Tested} where
+module _ {n : ℕ} {pool : List ℤ} {rows : List Row} {count : ℕ} (s : AssumedEntries) (t : Places) {t₁ : Places} {o h : Index} {y : Counters} {x : Tested} where
   pub full_leaf : stepped x t₁ ≡ step_of (rules pool rows count) n s t → x ≡ Full → SoundTrail n t₁ → Equipped (rules pool rows count) o h t₁.value y → Leaf (rules pool rows count) n o h t₁.value y
   full_leaf e q f k =
       let g = rules pool rows count in

@@ -19,7 +19,7 @@ abbrev pub base_of : List ℤ → List ℕ → Row → ℕ
 base_of pool v w = pick (is_weighted w.body) (weigh_number pool v w) (pick (is_choice w.head) 2 0)
 
 -- the first r rules have it
-pub record Based (pool : List ℤ) (rows v key : List ℕ) (broken r : ℕ) : Type 0 where
+pub record Based (pool : List ℤ) (rows : List Row) (v key : List ℕ) (broken r : ℕ) : Type 0 where
   pub long : length key ≡ 2048
   pub each : (j : ℕ) → j < r → get_or key j 0 ≡ base_of pool v (row_at rows j)
   pub zero_many : broken ≡ broken_many key r

@@ -9,6 +9,7 @@ ghost use Rattle.search.specs.Step.{stepped, step_of};
 ghost use Rattle.counting.specs.Counters.{index, counters};
 ghost use Rattle.indexing.specs.Leaf.{Equipped};
 
+use asp::rules::Row;
 use counting::counters::Marks;
 use stepping::step::AfterStep;
 use stepping::trail::Moved;
@@ -17,7 +18,7 @@ use stepping::{step, trail};
 // One step.
 pub fn step<'a>(
     pool: &'a [i32],
-    rows: &'a [u16],
+    rows: &'a [Row],
     rulecount: usize,
     starts: &'a [u16],
     lists: &'a [u16],
@@ -50,7 +51,7 @@ pub fn step<'a>(
 // After a conflict: back to the last decision, which is flipped.
 pub fn back<'a>(
     pool: &'a [i32],
-    rows: &'a [u16],
+    rows: &'a [Row],
     rulecount: usize,
     starts: &'a [u16],
     lists: &'a [u16],

@@ -1,17 +1,17 @@
 use borrow.Author.Rules.{rules}
+use Rattle.asp.proofs.Rounds.{round_next, round_done}
+use Rattle.asp.proofs.RowLaws.{formed_each}
 use Rattle.indexing.proofs.LeafLaws.{skipped}
-use Rattle.asp.proofs.Rounds.{rule_formed, round_long, round_next, round_done}
-use Rattle.asp.proofs.Rules.{formed_each}
 use Rattle.indexing.proofs.leaf.round.Goals as goal
 
-pub add_rule-one-requires : goal.add_rule-one-requires
-add_rule-one-requires c = (search (rule_formed, formed_each, rules), search rules, search (round_long, rules))
+pub add_rule-new-requires : goal.add_rule-new-requires
+add_rule-new-requires c = (formed_each c.requires.formed).each c.loop-r.r c.loop-r-test.true
 
-pub loop-r-preserved-then-is_two : goal.loop-r-preserved-then-is_two
-loop-r-preserved-then-is_two c = search (round_next, rules)
+pub loop-r-preserved-then-key-r-ne2 : goal.loop-r-preserved-then-key-r-ne2
+loop-r-preserved-then-key-r-ne2 c = skipped c.requires.formed c.requires.leaf c.loop-r.invariant c.requires.sub.0 c.loop-r-test.true c.if-key-r-ne2.true
 
 pub loop-r-preserved : goal.loop-r-preserved
-loop-r-preserved c = search (skipped, rules)
+loop-r-preserved c = search (round_next, rules)
 
 pub returns : goal.returns
 returns c = search (round_done, rules)
