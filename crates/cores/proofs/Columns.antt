@@ -11,13 +11,12 @@ use lib.Dec.{eqb, ltb}
 use lib.IntN.{ℤ, pos, nat_abs}
 use lib.ListN.{length, get_or, set, take, drop, replicate, length-replicate, get_or-replicate, length-take, length-set, drop_of_length-le, get_or-eq_default}
 use lib.Seq.{drop-cons, slice, slice-cons, length-slice, get_or-take, get_or-drop, get_or-set_same, get_or-set_other}
+use Rattle.std.specs.Prelude.{Option, Some, None}
 use borrow.Author.Tests.{eq-eqb, ne_eqb, eqb-true, eqb-false}
 use Rattle.asp.specs.Sets.{Set, pick, ind}
 use Rattle.asp.specs.Program.{All}
 use Rattle.asp.specs.Stable.{holds}
 use Rattle.cores.specs.Soft.{Kind, entry, derived, core_number, core_of, kind_at, count_by, judge, Earlier, InOrder}
-use Rattle.cores.specs.declared.judge.Judged.{Judged}
-use Rattle.cores.specs.declared.judge.Judged.TheVariants.{Met, Violated}
 use Rattle.cores.specs.Judging.{Judging, judging, kind_from, kind_in, kinds_in, members_in, cores_in, violated_at, count_in, FormedJudging, Known, IsCounted, Stays, Answers, CountAnswers, first_violated}
 use Rattle.cores.proofs.Sums.{below_or}
 use Rattle.cores.proofs.Judgements.{unfolds}
@@ -259,11 +258,11 @@ module _ {ls : List ℤ} {js is es ms : List ℕ} where
 
 -- ---- the first violated place of a list
 
-first_none : (U : ℕ → Bool) → first_violated U [] ≡ Met
+first_none : (U : ℕ → Bool) → first_violated U [] ≡ None
 unfolding first_violated
 first_none U = refl
 
-first_here : (U : ℕ → Bool) (p : ℕ) (ps : List ℕ) → U p ≡ true → first_violated U (p ∷ ps) ≡ Violated p
+first_here : (U : ℕ → Bool) (p : ℕ) (ps : List ℕ) → U p ≡ true → first_violated U (p ∷ ps) ≡ Some p
 unfolding first_violated
 first_here U p ps e = rw e
 
@@ -298,17 +297,17 @@ module _ {t : Judging} {M : Set} {ps before counts : List ℕ} {i : ℕ} where
   }
 
   pub pass_here : Passing t M ps before counts i → i < length ps → {p : ℕ} → p ≡ get_or ps i 0 → {b : Bool} {after : List ℕ} → Answers t M counts b (violated_at t M p) after → b ≡ true
-      → Answers t M before (Violated p) (first_violated (violated_at t M) ps) after
+      → Answers t M before (Some p) (first_violated (violated_at t M) ps) after
   pass_here c h {p} ep {b} {after} a q = record {
     is =
-        ap Violated ep
+        ap Some ep
         ∙ sym (first_here (violated_at t M) (get_or ps i 0) (drop (i + 1) ps) (sym (ap (violated_at t M) ep) ∙ sym a.is ∙ q))
         ∙ sym (ap (first_violated (violated_at t M)) (cut_at ps i h)) ∙ c.rest;
     known = a.known;
     stays = λ x w. a.stays x (c.stays x w);
   }
 
-  pub pass_end : Passing t M ps before counts i → length ps ≤ i → Answers t M before Met (first_violated (violated_at t M) ps) counts
+  pub pass_end : Passing t M ps before counts i → length ps ≤ i → Answers t M before None (first_violated (violated_at t M) ps) counts
   pass_end c h = record {
     is = sym (first_none (violated_at t M)) ∙ sym (ap (first_violated (violated_at t M)) (drop_of_length-le ps {i = i} h)) ∙ c.rest;
     known = c.known;
@@ -322,31 +321,31 @@ place_of {ls} {ps = ps} {i = i} c a h e = rw e (all_at (λ m. m < length ls) ps 
 
 -- ---- two lists, one after the other
 
-first_append : (U : ℕ → Bool) (ps qs : List ℕ) → first_violated U ps ≡ Met → first_violated U (ps ++ qs) ≡ first_violated U qs
+first_append : (U : ℕ → Bool) (ps qs : List ℕ) → first_violated U ps ≡ None → first_violated U (ps ++ qs) ≡ first_violated U qs
 unfolding first_violated
 first_append U [] qs e = refl
 first_append U (p ∷ ps) qs e = go (U p) e (first_append U ps qs)
   where
-    go : (b : Bool) → pick b (Violated p) (first_violated U ps) ≡ Met → (first_violated U ps ≡ Met → first_violated U (ps ++ qs) ≡ first_violated U qs)
-        → pick b (Violated p) (first_violated U (ps ++ qs)) ≡ first_violated U qs
+    go : (b : Bool) → pick b (Some p) (first_violated U ps) ≡ None → (first_violated U ps ≡ None → first_violated U (ps ++ qs) ≡ first_violated U qs)
+        → pick b (Some p) (first_violated U (ps ++ qs)) ≡ first_violated U qs
     go true e f = let z : ◌≡◌ {A = ℕ} 0 1 = cc in absurd (omega arith)
     go false e f = f e
 
-first_found : (U : ℕ → Bool) (ps qs : List ℕ) (p : ℕ) → first_violated U ps ≡ Violated p → first_violated U (ps ++ qs) ≡ Violated p
+first_found : (U : ℕ → Bool) (ps qs : List ℕ) (p : ℕ) → first_violated U ps ≡ Some p → first_violated U (ps ++ qs) ≡ Some p
 unfolding first_violated
 first_found U [] qs p e = let z : ◌≡◌ {A = ℕ} 0 1 = cc in absurd (omega arith)
 first_found U (x ∷ ps) qs p e = go (U x) e (first_found U ps qs p)
   where
-    go : (b : Bool) → pick b (Violated x) (first_violated U ps) ≡ Violated p → (first_violated U ps ≡ Violated p → first_violated U (ps ++ qs) ≡ Violated p)
-        → pick b (Violated x) (first_violated U (ps ++ qs)) ≡ Violated p
+    go : (b : Bool) → pick b (Some x) (first_violated U ps) ≡ Some p → (first_violated U ps ≡ Some p → first_violated U (ps ++ qs) ≡ Some p)
+        → pick b (Some x) (first_violated U (ps ++ qs)) ≡ Some p
     go true e f = e
     go false e f = f e
 
-module _ {t : Judging} {M : Set} (ps qs : List ℕ) {r : Judged} {before counts : List ℕ} where
-  pub found_first : Answers t M before r (first_violated (violated_at t M) ps) counts → (p : ℕ) → r ≡ Violated p → Violated p ≡ first_violated (violated_at t M) (ps ++ qs)
+module _ {t : Judging} {M : Set} (ps qs : List ℕ) {r : Option ℕ} {before counts : List ℕ} where
+  pub found_first : Answers t M before r (first_violated (violated_at t M) ps) counts → (p : ℕ) → r ≡ Some p → Some p ≡ first_violated (violated_at t M) (ps ++ qs)
   found_first a p e = sym (first_found (violated_at t M) ps qs p (sym a.is ∙ e))
 
-  pub found_second : Answers t M before r (first_violated (violated_at t M) ps) counts → r ≡ Met → {r₂ : Judged} {counts₂ : List ℕ} → Answers t M counts r₂ (first_violated (violated_at t M) qs) counts₂
+  pub found_second : Answers t M before r (first_violated (violated_at t M) ps) counts → r ≡ None → {r₂ : Option ℕ} {counts₂ : List ℕ} → Answers t M counts r₂ (first_violated (violated_at t M) qs) counts₂
       → r₂ ≡ first_violated (violated_at t M) (ps ++ qs)
   found_second a e b = b.is ∙ sym (first_append (violated_at t M) ps qs (sym a.is ∙ e))
 

@@ -8,50 +8,19 @@ use native.Mathlib.Numerals.{add-one}
 use native.Mathlib.Omega.{arith}
 use lib.Dec.{ltb, eqb}
 use lib.IntN.{ℤ, pos, neg_ℤ}
-use lib.ListN.{length, get_or, set, take, drop, length-take, length-map, get_or-map, drop_of_length-le}
-use lib.Seq.{drop-cons, sets, get_or-take}
+use lib.ListN.{length, get_or, set, drop, drop_of_length-le}
+use lib.Seq.{drop-cons, sets}
 use borrow.Author.Tests.{lt-ltb, le-ltb, eq-eqb, ne_eqb}
 use Rattle.asp.specs.Sets.{pick}
 use Rattle.asp.specs.Program.{All}
 use Rattle.asp.specs.Stable.{keep}
-use Rattle.cores.specs.declared.soft.Soft.{Soft}
 use Rattle.cores.specs.Level.{under, assumed_from}
-use Rattle.cores.specs.Tables.{no_soft}
-use Rattle.cores.specs.Columns.{Columns, put_columns, unpacked_from, unpacked_of, rests_of, raised_by, ListedPlaces, listed_places, assumed_of, entries_among, Pairs, pairs, put_pair, Paired, paired, put_entry, entry_columns}
+use Rattle.cores.specs.Columns.{raised_by, ListedPlaces, listed_places, assumed_of, entries_among, Pairs, pairs, put_pair, Paired, paired, put_entry, entry_columns}
 use Rattle.cores.proofs.Members.{all_at}
 use Rattle.cores.proofs.Strata.{assumed_yes, assumed_no}
 
 cut : {A : Type 0} (l : List A) (i : ℕ) (d : A) → i < length l → drop i l ≡ get_or l i d ∷ drop (i + 1) l
 cut l i d h = rw (add-one, drop-cons l i d)
-
--- ---- columns
-
-pub record Unpacking (ss : List Soft) (n : ℕ) (c₀ c : Columns) (i : ℕ) : Type 0 where
-  pub long : length ss ≡ 4096
-  pub below : i ≤ n
-  pub rest : unpacked_from i (drop i (take n ss)) c ≡ unpacked_of ss n c₀
-
-pub unpack_start : (ss : List Soft) (n : ℕ) (c : Columns) → length ss ≡ 4096 → Unpacking ss n c c 0
-unpack_start ss n c h = record { long = h; below = zero-le; rest = refl }
-
-unpack_one : (ss : List Soft) (n : ℕ) (c : Columns) (i : ℕ) → i < n → i < length ss → unpacked_from i (drop i (take n ss)) c ≡ unpacked_from (i + 1) (drop (i + 1) (take n ss)) (put_columns i (get_or ss i no_soft) c)
-unfolding unpacked_from
-unpack_one ss n c i h l = rw (cut (take n ss) i no_soft (rw length-take (omega arith)), get_or-take n ss i no_soft h)
-
-unpack_done : (i : ℕ) (c : Columns) → unpacked_from i [] c ≡ c
-unfolding unpacked_from
-unpack_done i c = refl
-
-module _ {ss : List Soft} {n : ℕ} {c₀ c : Columns} {i : ℕ} where
-  pub unpack_next : Unpacking ss n c₀ c i → i < n → n ≤ 4096 → {c₁ : Columns} → c₁ ≡ put_columns i (get_or ss i no_soft) c → Unpacking ss n c₀ c₁ (i + 1)
-  unpack_next u h l {c₁} e = record {
-    long = u.long;
-    below = omega arith;
-    rest = ap (unpacked_from (i + 1) (drop (i + 1) (take n ss))) e ∙ sym (unpack_one ss n c i h (omega (arith, u.long))) ∙ u.rest;
-  }
-
-  pub unpack_end : Unpacking ss n c₀ c i → n ≤ i → c ≡ unpacked_of ss n c₀
-  unpack_end u h = sym (unpack_done i c) ∙ sym (ap (λ (rs : List Soft). unpacked_from i rs c) (drop_of_length-le (take n ss) {i = i} (rw length-take (omega arith)))) ∙ u.rest
 
 -- ---- the next stratum
 
@@ -91,20 +60,6 @@ module _ {s : ℕ} {ws : List ℕ} {best i : ℕ} where
 
   pub fall_end : Falling s ws best i → length ws ≤ i → best ≡ under s ws
   fall_end f h = sym (fall_none s best) ∙ sym (ap (λ (l : List ℕ). max best (under s l)) (drop_of_length-le ws {i = i} h)) ∙ f.rest
-
--- the same over the records of a table
-rests_length : (ss : List Soft) (n : ℕ) → length ss ≡ 4096 → n ≤ 4096 → length (rests_of ss n) ≡ n
-rests_length ss n h l = omega (arith, h, length-map (take n ss) (λ (r : Soft). r.weight), length-take n ss)
-
-rests_at : (ss : List Soft) (n i : ℕ) → i < n → (get_or ss i no_soft).weight ≡ get_or (rests_of ss n) i 0
-rests_at ss n i h = ap (λ (r : Soft). r.weight) (sym (get_or-take n ss i no_soft h)) ∙ sym (get_or-map (λ (r : Soft). r.weight) (take n ss) i no_soft)
-
-module _ (s : ℕ) (ss : List Soft) (n : ℕ) {best i : ℕ} where
-  pub below_next : Falling s (rests_of ss n) best i → length ss ≡ 4096 → n ≤ 4096 → i < n → {r : Soft} → r ≡ get_or ss i no_soft → {b : ℕ} → b ≡ raised_by s r.weight best → Falling s (rests_of ss n) b (i + 1)
-  below_next f h l k er eb = fall_next f (omega (arith, rests_length ss n h l)) (ap (λ (r : Soft). r.weight) er ∙ rests_at ss n i k) eb
-
-  pub below_end : Falling s (rests_of ss n) best i → length ss ≡ 4096 → n ≤ 4096 → n ≤ i → best ≡ under s (rests_of ss n)
-  below_end f h l k = fall_end f (omega (arith, rests_length ss n h l))
 
 -- ---- the assumed places
 

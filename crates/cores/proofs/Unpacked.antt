@@ -1,30 +1,26 @@
--- The columns that are unpacked for a query: they are in shape, and judging by them is judging on the level. Assumes nothing.
-use mathlib.Core.Path.{◌≡◌, refl, sym, ap, ap₂, ◌∙◌, subst}
+-- The tables that are lent to a query: they are in shape, and judging by them is judging on the level. Assumes nothing.
+use mathlib.Core.Path.{◌≡◌, sym, ap, ap₂, ◌∙◌, subst}
 use mathlib.Core.Logic.{◌⊎◌, inl, inr}
 use mathlib.Core.List.{List, [], ◌∷◌, map}
 use Prim.Native.Nat.{ℕ, zero, suc, ◌+◌, ◌-◌, ◌≤◌, ◌<◌, zero-le}
 use native.Mathlib.Nat.{zero-add}
-use native.Mathlib.Numerals.{add-one}
 use native.Mathlib.Omega.{arith}
 use lib.IntN.{ℤ, pos, nat_abs}
-use lib.ListN.{length, get_or, set, take, drop, replicate, length-replicate, length-set, length-map, get_or-map, get_or-eq_default}
-use lib.Seq.{sets, slice, length-slice, get_or-take, get_or-drop, take-take, length-take-le, ext_get_or}
-use Rattle.asp.specs.Sets.{Set, ind}
+use lib.ListN.{length, get_or, take, drop, length-map, get_or-map, get_or-eq_default}
+use lib.Seq.{slice, length-slice, get_or-take, get_or-drop, take-take, length-take-le, ext_get_or}
+use Rattle.asp.specs.Sets.{Set}
 use Rattle.asp.specs.Program.{All}
 use Rattle.asp.specs.Tables.{span}
 use Rattle.cores.specs.declared.soft.Soft.{Soft}
 use Rattle.cores.specs.declared.level.LevelTables.{LevelTables}
-use Rattle.cores.specs.Sums.{wsum}
-use Rattle.cores.specs.Identity.{violated_weight}
 use Rattle.cores.specs.Soft.{Kind, entry, core_number, core_of, kind_at, violated, Earlier, InOrder}
-use Rattle.cores.specs.Judging.{Judging, judging, kind_from, kind_in, kinds_in, members_in, cores_in, violated_at, FormedJudging}
-use Rattle.cores.specs.Tables.{no_soft, held_in, kind_of, level_of, FormedTables, SoundTables, level_judging, FilledColumns}
-use Rattle.cores.specs.Columns.{Columns, columns, Long, put_columns, unpacked_from, unpacked_of}
-use Rattle.cores.proofs.Sums.{below_or, wsum_ext}
+use Rattle.cores.specs.Judging.{Judging, kind_from, kind_in, kinds_in, members_in, cores_in, violated_at, FormedJudging}
+use Rattle.cores.specs.Tables.{no_soft, held_in, kind_of, level_of, FormedTables, level_judging}
+use Rattle.cores.proofs.Sums.{below_or}
 use Rattle.cores.proofs.Members.{all_at}
 use Rattle.cores.proofs.Spans.{length_span, get_d_span, span_ext}
 use Rattle.cores.proofs.Columns.{number_of}
-use Rattle.cores.proofs.Links.{take_sets, cores_count}
+use Rattle.cores.proofs.Links.{cores_count}
 
 abbrev literal_of : Soft → ℤ
 literal_of r = r.literal
@@ -34,63 +30,6 @@ core_ix r = r.core
 
 abbrev index_of : Soft → ℕ
 index_of r = r.index
-
-abbrev weight_of : Soft → ℕ
-weight_of r = r.weight
-
--- ---- what unpacking stores
-
-module _ where
-  unpacked_literals : (i : ℕ) (rs : List Soft) (c : Columns) → (unpacked_from i rs c).literals ≡ sets c.literals i (map literal_of rs)
-  unfolding unpacked_from
-  unpacked_literals i [] c = refl
-  unpacked_literals i (r ∷ rs) c = unpacked_literals (i + 1) rs (put_columns i r c) ∙ ap (λ (k : ℕ). sets (set c.literals i r.literal) k (map literal_of rs)) (add-one i)
-
-  unpacked_cores : (i : ℕ) (rs : List Soft) (c : Columns) → (unpacked_from i rs c).cores ≡ sets c.cores i (map core_ix rs)
-  unfolding unpacked_from
-  unpacked_cores i [] c = refl
-  unpacked_cores i (r ∷ rs) c = unpacked_cores (i + 1) rs (put_columns i r c) ∙ ap (λ (k : ℕ). sets (set c.cores i r.core) k (map core_ix rs)) (add-one i)
-
-  unpacked_indices : (i : ℕ) (rs : List Soft) (c : Columns) → (unpacked_from i rs c).indices ≡ sets c.indices i (map index_of rs)
-  unfolding unpacked_from
-  unpacked_indices i [] c = refl
-  unpacked_indices i (r ∷ rs) c = unpacked_indices (i + 1) rs (put_columns i r c) ∙ ap (λ (k : ℕ). sets (set c.indices i r.index) k (map index_of rs)) (add-one i)
-
-  unpacked_weights : (i : ℕ) (rs : List Soft) (c : Columns) → (unpacked_from i rs c).weights ≡ sets c.weights i (map weight_of rs)
-  unfolding unpacked_from
-  unpacked_weights i [] c = refl
-  unpacked_weights i (r ∷ rs) c = unpacked_weights (i + 1) rs (put_columns i r c) ∙ ap (λ (k : ℕ). sets (set c.weights i r.weight) k (map weight_of rs)) (add-one i)
-
-front : {A : Type 0} (l xs : List A) (n : ℕ) → length xs ≡ n → n ≤ length l → take n (sets l 0 xs) ≡ xs
-front l xs n e h =
-    ap (λ (k : ℕ). take k (sets l 0 xs)) (sym (zero-add (length xs) ∙ e)) ∙ take_sets l 0 xs (omega arith)
-
-unpacked_long : (i : ℕ) (rs : List Soft) (c : Columns) → Long c → Long (unpacked_from i rs c)
-unfolding unpacked_from
-unpacked_long i [] c l = l
-unpacked_long i (r ∷ rs) c l =
-    unpacked_long (i + 1) rs (put_columns i r c) (record {
-      literals = length-set c.literals i r.literal ∙ l.literals;
-      cores = length-set c.cores i r.core ∙ l.cores;
-      indices = length-set c.indices i r.index ∙ l.indices;
-      weights = length-set c.weights i r.weight ∙ l.weights;
-    })
-
--- WHAT UNPACKING LEAVES IN THE ARRAYS
-pub filled_by : {t : LevelTables} → FormedTables t → {c₀ : Columns} → Long c₀ → {c : Columns} → c ≡ unpacked_of t.softs t.count c₀ → FilledColumns t c
-filled_by {t} f {c₀} l {c} e = subst (FilledColumns t) (sym e) (record {
-  long = unpacked_long 0 S c₀ l;
-  literals = ap (take t.count) (unpacked_literals 0 S c₀) ∙ front c₀.literals (map literal_of S) t.count (length-map S literal_of ∙ n) (omega (arith, f.softs_few, l.literals));
-  cores = ap (take t.count) (unpacked_cores 0 S c₀) ∙ front c₀.cores (map core_ix S) t.count (length-map S core_ix ∙ n) (omega (arith, f.softs_few, l.cores));
-  indices = ap (take t.count) (unpacked_indices 0 S c₀) ∙ front c₀.indices (map index_of S) t.count (length-map S index_of ∙ n) (omega (arith, f.softs_few, l.indices));
-  weights = ap (take t.count) (unpacked_weights 0 S c₀) ∙ front c₀.weights (map weight_of S) t.count (length-map S weight_of ∙ n) (omega (arith, f.softs_few, l.weights));
-})
-  where
-    S : List Soft
-    S = take t.count t.softs
-
-    n : length S ≡ t.count
-    n = length-take-le t.count t.softs (omega (arith, f.softs_len, f.softs_few))
 
 -- ---- judging by them
 
@@ -209,70 +148,3 @@ module _ (t : LevelTables) (f : FormedTables t) where
       falls = falls;
     }
 
--- ---- the arrays, cut to what is filled
-
-module _ (t : LevelTables) (c : Columns) where
-  -- the tables that judging takes
-  abbrev pub cut_judging : Judging
-  cut_judging = judging (take t.count c.literals) (take t.count c.cores) (take t.count c.indices) (take (t.cores + 1) t.ends) (take (held_in t) t.members)
-
-  pub cut_is : FilledColumns t c → cut_judging ≡ level_judging t
-  cut_is q =
-      ap (λ (ls : List ℤ). judging ls (take t.count c.cores) (take t.count c.indices) (take (t.cores + 1) t.ends) (take (held_in t) t.members)) q.literals
-      ∙ ap₂ (λ (js is : List ℕ). judging (level_judging t).literals js is (take (t.cores + 1) t.ends) (take (held_in t) t.members)) q.cores q.indices
-
-  -- THE ARRAYS ARE IN SHAPE, AND JUDGING BY THEM IS JUDGING ON THE LEVEL
-  pub cut_formed : SoundTables t → FilledColumns t c → FormedJudging cut_judging
-  cut_formed s q = subst FormedJudging (sym (cut_is q)) (judging_formed t s.formed s.ordered)
-
-  pub cut_violated : SoundTables t → FilledColumns t c → (M : Set) (p : ℕ) → violated_at cut_judging M p ≡ violated M (level_of t).kinds (level_of t).cores p
-  cut_violated s q M p = ap (λ (j : Judging). violated_at j M p) (cut_is q) ∙ judging_level t s.formed M p
-
--- what the code asks where it cuts them
-module _ {t : LevelTables} (s : SoundTables t) {ls : List ℤ} {js is ws : List ℕ} (q : FilledColumns t (columns ls js is ws)) where
-  pub reach_literals : t.count ≤ length ls
-  reach_literals = omega (arith, s.formed.softs_few, q.long.literals)
-
-  pub reach_cores : t.count ≤ length js
-  reach_cores = omega (arith, s.formed.softs_few, q.long.cores)
-
-  pub reach_indices : t.count ≤ length is
-  reach_indices = omega (arith, s.formed.softs_few, q.long.indices)
-
-  pub reach_weights : t.count ≤ length ws
-  reach_weights = omega (arith, s.formed.softs_few, q.long.weights)
-
-  pub reach_ends : t.cores + 1 ≤ length t.ends
-  reach_ends = omega (arith, s.formed.ends_len, s.formed.cores_few, s.formed.held_few)
-
-  pub reach_members : held_in t ≤ length t.members
-  reach_members = omega (arith, s.formed.members_len, s.formed.held_few)
-
-  pub same_many : length (take t.count ws) ≡ length (take t.count ls)
-  same_many = length-take-le t.count ws reach_weights ∙ sym (length-take-le t.count ls reach_literals)
-
-  pub same_cores : length (take t.count js) ≡ length (take t.count ls)
-  same_cores = length-take-le t.count js reach_cores ∙ sym (length-take-le t.count ls reach_literals)
-
-  pub few_many : length (take t.count ws) ≤ 4096
-  few_many = omega (arith, length-take-le t.count ws reach_weights, s.formed.softs_few)
-
-  -- the sum over the cut arrays is the level's
-  pub cut_sum : (M : Set)
-      → wsum (λ p. ind (violated_at (judging (take t.count ls) (take t.count js) (take t.count is) (take (t.cores + 1) t.ends) (take (held_in t) t.members)) M p)) (take t.count ws)
-      ≡ violated_weight M (level_of t)
-  cut_sum M =
-      ap (wsum (λ p. ind (violated_at (cut_judging t (columns ls js is ws)) M p))) q.weights
-      ∙ wsum_ext _ _ (level_of t).rests (λ p h. ap ind (cut_violated t (columns ls js is ws) s q M p))
-
-pub cut_long : {A : Type 0} (l : List A) (n : ℕ) → n ≤ length l → n ≡ length (take n l)
-cut_long l n h = sym (length-take-le n l h)
-
--- fresh arrays
-pub zeros_long : Long (columns (replicate 4096 (pos 0)) (replicate 4096 0) (replicate 4096 0) (replicate 4096 0))
-zeros_long = record {
-  literals = length-replicate 4096 (pos 0);
-  cores = length-replicate {A = ℕ} 4096 0;
-  indices = length-replicate {A = ℕ} 4096 0;
-  weights = length-replicate {A = ℕ} 4096 0;
-}
