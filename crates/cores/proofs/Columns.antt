@@ -9,8 +9,11 @@ use native.Mathlib.Numerals.{add-one}
 use native.Mathlib.Omega.{arith}
 use lib.Dec.{eqb, ltb}
 use lib.IntN.{ℤ, pos, nat_abs}
-use lib.ListN.{length, get_or, set, take, drop, replicate, length-replicate, get_or-replicate, length-take, length-set, drop_of_length-le, get_or-eq_default}
+use lib.ListN.{length, get_or, set, take, drop, replicate, length-replicate, get_or-replicate, length-take, length-map, get_or-map, length-set, drop_of_length-le, get_or-eq_default}
 use lib.Seq.{drop-cons, slice, slice-cons, length-slice, get_or-take, get_or-drop, get_or-set_same, get_or-set_other}
+use mir.Syntax.{w32}
+use mir.Val.{to_z, of_z}
+use mir.Facts.{to_z-of_z}
 use Rattle.std.specs.Prelude.{Option, Some, None}
 use borrow.Author.Tests.{eq-eqb, ne_eqb, eqb-true, eqb-false}
 use Rattle.asp.specs.Sets.{Set, pick, ind}
@@ -18,6 +21,10 @@ use Rattle.asp.specs.Program.{All}
 use Rattle.asp.specs.Stable.{holds}
 use Rattle.cores.specs.Soft.{Kind, entry, derived, core_number, core_of, kind_at, count_by, judge, Earlier, InOrder}
 use Rattle.cores.specs.Judging.{Judging, judging, kind_from, kind_in, kinds_in, members_in, cores_in, violated_at, count_in, FormedJudging, Known, IsCounted, Stays, Answers, CountAnswers, first_violated}
+use Rattle.asp.proofs.Signed.{small_fits}
+use Rattle.cores.specs.declared.soft.Soft.{Soft}
+use Rattle.cores.specs.Columns.{literals_of, cores_of, indices_of}
+use Rattle.cores.specs.Tables.{no_soft, judging_of}
 use Rattle.cores.proofs.Sums.{below_or}
 use Rattle.cores.proofs.Judgements.{unfolds}
 use Rattle.cores.proofs.Members.{at_all, all_at}
@@ -359,3 +366,33 @@ none_kept n j = go (below_or j n)
 
 pub known_none : {t : Judging} {n : ℕ} → length t.ends ≤ n → (M : Set) → Known t M (replicate n 0)
 known_none {t} {n} h M = record { long = rw length-replicate h; kept = λ j z. absurd (z (none_kept n j)) }
+
+-- ---- the same of records that are lent
+
+module _ (ss : List Soft) (es ms : List ℕ) (f : FormedJudging (judging_of ss es ms)) (p : ℕ) (h : p < length ss) {r : Soft} (er : r ≡ get_or ss p no_soft) where
+  literal_is : r.literal ≡ get_or (literals_of ss) p (pos 0)
+  literal_is = ap (λ (x : Soft). x.literal) er ∙ sym (get_or-map (λ (x : Soft). x.literal) ss p no_soft)
+
+  core_is : r.core ≡ get_or (cores_of ss) p 0
+  core_is = ap (λ (x : Soft). x.core) er ∙ sym (get_or-map (λ (x : Soft). x.core) ss p no_soft)
+
+  index_is : r.index ≡ get_or (indices_of ss) p 0
+  index_is = ap (λ (x : Soft). x.index) er ∙ sym (get_or-map (λ (x : Soft). x.index) ss p no_soft)
+
+  inside : p < length (literals_of ss)
+  inside = rw length-map h
+
+  -- a literal that goes to a call stands as `to_z w32 (of_z w32 l)`, its bits read back
+  pub literal_back : to_z w32 (of_z w32 r.literal) ≡ r.literal
+  literal_back = to_z-of_z (small_fits r.literal (subst (λ (l : ℤ). nat_abs l ≤ 1024) (sym literal_is) (f.small p)))
+
+  pub literal_small : nat_abs (to_z w32 (of_z w32 r.literal)) ≤ 1024
+  literal_small = subst (λ (l : ℤ). nat_abs l ≤ 1024) (sym (literal_back ∙ literal_is)) (f.small p)
+
+  pub judge_entry_of : {M : Set} {counts : List ℕ} → Known (judging_of ss es ms) M counts → {j : ℕ} → j ≡ r.core → j ≡ 0 → {b : Bool} → b ≡ holds M (to_z w32 (of_z w32 r.literal))
+      → Answers (judging_of ss es ms) M counts b (violated_at (judging_of ss es ms) M p) counts
+  judge_entry_of {M} k ej z e = judge_entry f k inside (ej ∙ core_is) z (e ∙ ap (holds M) (literal_back ∙ literal_is))
+
+  pub judge_derived_of : {M : Set} {j : ℕ} → j ≡ r.core → (j ≡ 0 → ⊥) → {n : ℕ} {before after : List ℕ} → CountAnswers (judging_of ss es ms) M before n j after
+      → {i : ℕ} → i ≡ r.index → Answers (judging_of ss es ms) M before (ltb i n) (violated_at (judging_of ss es ms) M p) after
+  judge_derived_of ej z a ei = judge_derived f inside (ej ∙ core_is) z a (ei ∙ index_is)

@@ -8,14 +8,16 @@ use native.Mathlib.Numerals.{add-one}
 use native.Mathlib.Omega.{arith}
 use lib.Dec.{ltb, eqb}
 use lib.IntN.{ℤ, pos, neg_ℤ}
-use lib.ListN.{length, get_or, set, drop, drop_of_length-le}
+use lib.ListN.{length, get_or, set, drop, length-map, drop_of_length-le}
 use lib.Seq.{drop-cons, sets}
+use Rattle.std.proofs.lemmas.List.{get_or-map}
 use borrow.Author.Tests.{lt-ltb, le-ltb, eq-eqb, ne_eqb}
 use Rattle.asp.specs.Sets.{pick}
 use Rattle.asp.specs.Program.{All}
 use Rattle.asp.specs.Stable.{keep}
+use Rattle.cores.specs.declared.soft.Soft.{Soft}
 use Rattle.cores.specs.Level.{under, assumed_from}
-use Rattle.cores.specs.Columns.{raised_by, ListedPlaces, listed_places, assumed_of, entries_among, Pairs, pairs, put_pair, Paired, paired, put_entry, entry_columns}
+use Rattle.cores.specs.Columns.{rests_of, raised_by, ListedPlaces, listed_places, assumed_of, entries_among, Pairs, pairs, put_pair, Paired, paired, put_entry, entry_columns}
 use Rattle.cores.proofs.Members.{all_at}
 use Rattle.cores.proofs.Strata.{assumed_yes, assumed_no}
 
@@ -23,15 +25,6 @@ cut : {A : Type 0} (l : List A) (i : ℕ) (d : A) → i < length l → drop i l 
 cut l i d h = rw (add-one, drop-cons l i d)
 
 -- ---- the next stratum
-
-pub raised_yes : (s w b : ℕ) → w < s → b < w → w ≡ raised_by s w b
-raised_yes s w b h l = rw (lt-ltb w s h) (omega arith)
-
-pub raised_kept : (s w b : ℕ) → w < s → w ≤ b → b ≡ raised_by s w b
-raised_kept s w b h l = rw (lt-ltb w s h) (omega arith)
-
-pub raised_no : (s w b : ℕ) → s ≤ w → b ≡ raised_by s w b
-raised_no s w b h = rw (le-ltb w s h)
 
 pub record Falling (s : ℕ) (ws : List ℕ) (best i : ℕ) : Type 0 where
   pub below : i ≤ length ws
@@ -60,6 +53,29 @@ module _ {s : ℕ} {ws : List ℕ} {best i : ℕ} where
 
   pub fall_end : Falling s ws best i → length ws ≤ i → best ≡ under s ws
   fall_end f h = sym (fall_none s best) ∙ sym (ap (λ (l : List ℕ). max best (under s l)) (drop_of_length-le ws {i = i} h)) ∙ f.rest
+
+-- the same over records that are lent
+rests_long : (ss : List Soft) → length (rests_of ss) ≡ length ss
+rests_long ss = length-map ss (λ (r : Soft). r.weight)
+
+rest_at : (ss : List Soft) (i : ℕ) (d : Soft) → i < length ss → (get_or ss i d).weight ≡ get_or (rests_of ss) i 0
+rest_at ss i d h = sym (get_or-map (λ (r : Soft). r.weight) ss i d 0 h)
+
+raised_yes : (s w best : ℕ) → w < s → max w best ≡ raised_by s w best
+raised_yes s w best h = rw (lt-ltb w s h)
+
+raised_no : (s w best : ℕ) → s ≤ w → best ≡ raised_by s w best
+raised_no s w best h = rw (le-ltb w s h)
+
+module _ (ss : List Soft) (d : Soft) {s best i : ℕ} where
+  pub fall_soft : Falling s (rests_of ss) best i → i < length ss → (get_or ss i d).weight < s → {b : ℕ} → b ≡ max (get_or ss i d).weight best → Falling s (rests_of ss) b (i + 1)
+  fall_soft f h l e = fall_next f (omega (arith, rests_long ss)) (rest_at ss i d h) (e ∙ raised_yes s (get_or ss i d).weight best l)
+
+  pub skip_soft : Falling s (rests_of ss) best i → i < length ss → s ≤ (get_or ss i d).weight → {b : ℕ} → b ≡ best → Falling s (rests_of ss) b (i + 1)
+  skip_soft f h l e = fall_next f (omega (arith, rests_long ss)) (rest_at ss i d h) (e ∙ raised_no s (get_or ss i d).weight best l)
+
+pub fall_all : {s : ℕ} (ss : List Soft) {best i : ℕ} → Falling s (rests_of ss) best i → length ss ≤ i → best ≡ under s (rests_of ss)
+fall_all ss f h = fall_end f (omega (arith, rests_long ss))
 
 -- ---- the assumed places
 
@@ -111,6 +127,17 @@ module _ {s : ℕ} {ws ps₀ ps : List ℕ} {n i : ℕ} where
   pub pick_end : Picking s ws ps₀ ps n i → length ws ≤ i → listed_places ps n ≡ assumed_of s ws ps₀
   unfolding assumed_from
   pick_end p h = sym (put_none ps n) ∙ sym (ap (λ (l : List ℕ). to_come ps n (assumed_from s i l)) (drop_of_length-le ws {i = i} h)) ∙ p.rest
+
+-- the same over records that are lent
+module _ (ss : List Soft) (d : Soft) {s : ℕ} {ps₀ ps : List ℕ} {n i : ℕ} where
+  pub pick_soft : Picking s (rests_of ss) ps₀ ps n i → i < length ss → s ≤ (get_or ss i d).weight → {ps₁ : List ℕ} → ps₁ ≡ set ps n i → {n₁ : ℕ} → n₁ ≡ n + 1 → Picking s (rests_of ss) ps₀ ps₁ n₁ (i + 1)
+  pick_soft p h l ep en = pick_next p (omega (arith, rests_long ss)) (rest_at ss i d h) l refl ep en
+
+  pub leave_soft : Picking s (rests_of ss) ps₀ ps n i → i < length ss → (get_or ss i d).weight < s → {ps₁ : List ℕ} → ps₁ ≡ ps → {n₁ : ℕ} → n₁ ≡ n → Picking s (rests_of ss) ps₀ ps₁ n₁ (i + 1)
+  leave_soft p h l ep en = pick_skip p (omega (arith, rests_long ss)) (rest_at ss i d h) l ep en
+
+pub pick_all : {s : ℕ} (ss : List Soft) {ps₀ ps : List ℕ} {n i : ℕ} → Picking s (rests_of ss) ps₀ ps n i → length ss ≤ i → listed_places ps n ≡ assumed_of s (rests_of ss) ps₀
+pick_all ss p h = pick_end p (omega (arith, rests_long ss))
 
 -- ---- those of them that are an entry's
 

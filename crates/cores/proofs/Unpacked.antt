@@ -147,4 +147,3 @@ module _ (t : LevelTables) (f : FormedTables t) where
       member_in = member_in;
       falls = falls;
     }
-

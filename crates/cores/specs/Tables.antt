@@ -99,7 +99,7 @@ abbrev pub tried : Result (Unit {0}) Full → LevelTables → Tried
 tried r t = record { answer = r; tables = t }
 
 abbrev pub full : Full
-full = record { }
+full = record {}
 
 -- "If a core would pass either, it isn't recorded and the status is full."
 abbrev pub tried_tables : LevelTables → ℕ → List ℕ → Tried
