@@ -27,7 +27,7 @@ use Rattle.cores.specs.Columns.{literals_of, cores_of, indices_of}
 use Rattle.cores.specs.Tables.{no_soft, judging_of}
 use Rattle.cores.proofs.Sums.{below_or}
 use Rattle.cores.proofs.Judgements.{unfolds}
-use Rattle.cores.proofs.Members.{at_all, all_at}
+use Rattle.cores.proofs.Members.{at_all}
 use Rattle.cores.proofs.Spans.{length_span, get_d_span}
 
 -- ---- the kinds and the cores, by place
@@ -157,12 +157,6 @@ count_start {t} {M} f {counts} o {j} l h {e} ee {k} ek = record {
   rest = zero-add _ ∙ ap₂ (λ (a b : ℕ). count_by (violated_at t M) (slice a b t.members)) ek ee ∙ sym (ap (count_by (violated_at t M)) (core_slice t f j l h));
 }
 
--- the count that is kept
-pub count_old : {t : Judging} {M : Set} {counts : List ℕ} → Known t M counts → (j : ℕ) {o : ℕ} → o ≡ get_or counts j 0 → (o ≡ 0 → ⊥) → CountAnswers t M counts (o - 1) j counts
-count_old {t} {M} {counts} k j {o} e z =
-    let q : get_or counts j 0 ≡ count_in t M j + 1 = k.kept j (λ w. z (e ∙ w)) in
-    record { is = omega arith; known = k; stays = λ i w. w; counted = λ w. z (e ∙ w) }
-
 -- what is kept stays kept, and one more is
 counted_now : (counts : List ℕ) (j n : ℕ) → j < length counts → IsCounted (set counts j (n + 1)) j
 counted_now counts j n h z = absurd (omega (arith, get_or-set_same counts j (n + 1) 0 h))
@@ -188,17 +182,6 @@ module _ {t : Judging} {M : Set} {j e : ℕ} {before counts : List ℕ} {k n : �
   -- the place of a member
   pub member_place : Counting t M j e before counts k n → FormedJudging t → k < e → k < length t.members
   member_place c f h = omega (arith, f.end_in j, c.ends)
-
-  pub member_soft : Counting t M j e before counts k n → FormedJudging t → k < e → {m : ℕ} → m ≡ get_or t.members k 0 → m < length t.literals
-  member_soft c f h em = rw em (f.member_in k (member_place c f h))
-
-  -- its core number is less
-  pub member_falls : Counting t M j e before counts k n → FormedJudging t → 1 ≤ j → k < e → {m : ℕ} → m ≡ get_or t.members k 0 → get_or t.cores m 0 < j
-  member_falls c f l h {m} em =
-      let i : j - 1 + 1 ≡ j = omega arith in
-      let q : k < get_or t.ends (j - 1 + 1) 0 = rw i (omega (arith, c.ends)) in
-      let x : get_or t.cores (get_or t.members k 0) 0 ≤ j - 1 = f.falls (j - 1) k c.from q in
-      rw em (omega arith)
 
   pub count_yes : Counting t M j e before counts k n → FormedJudging t → k < e → {m : ℕ} → m ≡ get_or t.members k 0 → {b : Bool} {after : List ℕ} → Answers t M counts b (violated_at t M m) after → length after ≡ length counts → b ≡ true
       → {n₁ : ℕ} → n₁ ≡ n + 1 → Counting t M j e before after (k + 1) n₁
@@ -230,38 +213,10 @@ module _ {t : Judging} {M : Set} {j e : ℕ} {before counts : List ℕ} {k n : �
         omega (arith, c.rest, ap ind v, count_cons (violated_at t M) t.members k e h (omega (arith, f.end_in j, c.ends)));
   }
 
-  -- n is within the table
-  pub count_few : Counting t M j e before counts k n → FormedJudging t → n ≤ 4096
-  count_few c f = omega (arith, c.few, c.inside, f.few)
-
-  pub count_end : Counting t M j e before counts k n → j < length t.ends → e ≤ k → {after : List ℕ} → after ≡ set counts j (n + 1) → CountAnswers t M before n j after
-  count_end c h l {after} ea =
-      let q : n ≡ count_in t M j = omega (arith, c.rest, count_none (violated_at t M) t.members k e l) in
-      let i : j < length counts = omega (arith, c.known.long) in
-      record {
-        is = q;
-        known = rw ea (kept_after t M counts j n c.known i q);
-        stays = λ x w. rw ea (counted_set counts j n x i (c.stays x w));
-        counted = rw ea (counted_now counts j n i);
-      }
-
 -- the same with the columns in sight, as the code's needs have them
 module _ {ls : List ℤ} {js is es ms : List ℕ} where
   pub small_at : FormedJudging (judging ls js is es ms) → (p : ℕ) → nat_abs (get_or ls p (pos 0)) ≤ 1024
   small_at f p = f.small p
-
-  pub core_within : FormedJudging (judging ls js is es ms) → (p : ℕ) {j : ℕ} → j ≡ get_or js p 0 → j < length es
-  core_within f p e = rw e (f.core_in p)
-
-  module _ {M : Set} {j e : ℕ} {before counts : List ℕ} {k n : ℕ} where
-    pub place_in : Counting (judging ls js is es ms) M j e before counts k n → FormedJudging (judging ls js is es ms) → k < e → k < length ms
-    place_in c f h = member_place c f h
-
-    pub soft_in : Counting (judging ls js is es ms) M j e before counts k n → FormedJudging (judging ls js is es ms) → k < e → {m : ℕ} → m ≡ get_or ms k 0 → m < length ls
-    soft_in c f h em = member_soft c f h em
-
-    pub core_falls : Counting (judging ls js is es ms) M j e before counts k n → FormedJudging (judging ls js is es ms) → 1 ≤ j → k < e → {m : ℕ} → m ≡ get_or ms k 0 → get_or js m 0 < j
-    core_falls c f l h em = member_falls c f l h em
 
 -- ---- the first violated place of a list
 
@@ -320,11 +275,6 @@ module _ {t : Judging} {M : Set} {ps before counts : List ℕ} {i : ℕ} where
     known = c.known;
     stays = c.stays;
   }
-
--- a place of the list is one of the table
-pub place_of : {ls : List ℤ} {js is es ms : List ℕ} {M : Set} {ps before counts : List ℕ} {i : ℕ} → Passing (judging ls js is es ms) M ps before counts i → All (λ m. m < length ls) ps
-    → i < length ps → {p : ℕ} → p ≡ get_or ps i 0 → p < length ls
-place_of {ls} {ps = ps} {i = i} c a h e = rw e (all_at (λ m. m < length ls) ps a i h)
 
 -- ---- two lists, one after the other
 

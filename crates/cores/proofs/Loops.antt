@@ -3,11 +3,8 @@ use mathlib.Core.Path.{◌≡◌, refl, sym, ap, ap₂, ◌∙◌}
 use mathlib.Core.Bool.{Bool, true, false, ◌&&◌}
 use mathlib.Core.List.{List, [], ◌∷◌, ◌++◌}
 use Prim.Native.Nat.{ℕ, suc, ◌+◌, ◌-◌, ◌≤◌, ◌<◌}
-use mir.Syntax.{w32}
-use mir.Val.{SFits, to_z, of_z}
-use mir.Facts.{to_z-of_z}
 use native.Mathlib.Numerals.{add-one}
-use native.Mathlib.Nat.{add-zero, zero-add}
+use native.Mathlib.Nat.{add-zero}
 use native.Mathlib.Omega.{arith}
 use lib.Dec.{ltb, leb, leb→le}
 use mir.Facts.{and_yes}
@@ -17,18 +14,16 @@ use lib.Seq.{drop-cons, sets}
 use borrow.Rule.Slice.PartMut.{put_mid}
 use Rattle.std.proofs.Common.{append_assoc, drop-drop}
 use Rattle.std.proofs.lemmas.List.Edits.{sets-eq}
-use borrow.Author.Tests.{le-leb, lt-leb}
 use Rattle.asp.specs.Sets.{pick}
 use Rattle.asp.specs.Literal.{same_ℤ}
-use Rattle.asp.specs.Program.{Entry, All}
+use Rattle.asp.specs.Program.{Entry}
 use Rattle.asp.specs.Cost.{level}
 use Rattle.asp.specs.Penalty.{Penalty, paid_literal, penalties}
 use Rattle.asp.specs.Tables.{span, entry_at, entries_of}
 use Rattle.cores.specs.declared.soft.Soft.{Soft}
 use Rattle.cores.specs.declared.level.LevelTables.{LevelTables}
 use Rattle.cores.specs.Level.{weighty, core_fits}
-use Rattle.cores.specs.Tables.{no_soft, entry_soft, core_soft, lighter_by, lighten, new_softs, softs_of, empty_tables, opened_tables, counts_at, soft_at, held_in, Counted, Room}
-use Rattle.cores.proofs.Members.{all_at}
+use Rattle.cores.specs.Tables.{no_soft, entry_soft, core_soft, lighter_by, lighten, new_softs, softs_of, opened_tables, counts_at, soft_at, held_in, Counted, Room}
 
 -- ---- a free place
 
@@ -44,18 +39,12 @@ pub record Losing (s : ℕ) (ms : List ℕ) (t₀ t : List Soft) (i : ℕ) : Typ
   pub below : i ≤ length ms
   pub rest : lighten s (drop i ms) t ≡ lighten s ms t₀
 
-pub lose_start : (s : ℕ) (ms : List ℕ) (t : List Soft) → Losing s ms t t 0
-lose_start s ms t = record { long = refl; below = omega arith; rest = refl }
-
 lighten_next : (s : ℕ) (t : List Soft) (ms : List ℕ) (i : ℕ) → i < length ms
     → lighten s (drop i ms) t ≡ lighten s (drop (i + 1) ms) (set t (get_or ms i 0) (lighter_by s (get_or t (get_or ms i 0) no_soft)))
 unfolding lighten
 lighten_next s t ms i h = rw (add-one, drop-cons ms i 0)
 
 module _ {s : ℕ} {ms : List ℕ} {t₀ t : List Soft} {i : ℕ} where
-  -- a member's place
-  pub lose_at : Losing s ms t₀ t i → i < length ms → All (λ m. m < length t₀) ms → {m : ℕ} → m ≡ get_or ms i 0 → m < length t
-  lose_at l h a e = rw (e, l.long) (all_at (λ m. m < length t₀) ms a i h)
 
   pub lose_next : Losing s ms t₀ t i → i < length ms → {m : ℕ} → m ≡ get_or ms i 0 → {x : Soft} → x ≡ lighter_by s (get_or t m no_soft) → Losing s ms t₀ (set t m x) (i + 1)
   lose_next l h {m} e {x} q = record {
@@ -74,13 +63,6 @@ pub record Adding (j n s k : ℕ) (t₀ t : List Soft) (i : ℕ) : Type 0 where
   pub long : length t ≡ length t₀
   pub below : i ≤ n
   pub rest : sets t (k + i) (new_softs j (1 + i) (n - i) s) ≡ sets t₀ k (new_softs j 1 n s)
-
-pub add_start : (j n s k : ℕ) (t : List Soft) → Adding j n s k t t 0
-add_start j n s k t =
-    let a : k + 0 ≡ k = omega arith in
-    let b : 1 + 0 ≡ 1 = omega arith in
-    let c : n - 0 ≡ n = omega arith in
-    record { long = refl; below = omega arith; rest = rw (a, b, c) }
 
 add_step : (j n s k : ℕ) (t : List Soft) (i m : ℕ) → n - i ≡ suc m
     → sets t (k + i) (new_softs j (1 + i) (n - i) s) ≡ sets (set t (k + i) (core_soft j (i + 1) s)) (k + (i + 1)) (new_softs j (1 + (i + 1)) (n - (i + 1)) s)
@@ -111,14 +93,7 @@ put_part l k xs e h =
     let n : k + length xs - k ≡ length xs = omega arith in
     rw (e, n) (ap (λ (r : List ℕ). take k l ++ (xs ++ r)) (drop-drop (length xs) k l) ∙ sym (append_assoc (take k l) xs (drop (k + length xs) l)) ∙ sym (sets-eq xs l k h))
 
--- ---- opening a level. A priority that goes from one call to the next stands as `to_z w32 (of_z w32 q)`, its bits read back.
-
-module _ (ps ws : List ℤ) (i : ℕ) (q : ℤ) where
-  pub both : SFits w32 q → {b : Bool} → b ≡ same_ℤ (to_z w32 (of_z w32 q)) (get_or ps i (pos 0)) → b ≡ true → {w : ℕ} → w ≡ nat_abs (get_or ws i (pos 0)) → ltb 0 w ≡ counts_at ps ws i q
-  both s e t f = rw (sym (rw (to_z-of_z s) at e) ∙ t, f)
-
-  pub neither : SFits w32 q → {b : Bool} → b ≡ same_ℤ (to_z w32 (of_z w32 q)) (get_or ps i (pos 0)) → b ≡ false → b ≡ counts_at ps ws i q
-  neither s e t = rw (sym (rw (to_z-of_z s) at e) ∙ t) t
+-- ---- opening a level
 
 -- the soft literals of a level, entry by entry
 softs_cons : (q : ℤ) (e : Entry) (es : List Entry)
@@ -150,13 +125,6 @@ module _ (ps ls ws : List ℤ) (n : ℕ) (q : ℤ) where
     pub below : i ≤ n
     pub few : t.count ≤ i
     pub rest : opened_from t t.count (penalties (level q (span (entry_at ps ls ws) i (n - i)))) ≡ opened_tables (penalties (level q (entries_of ps ls ws n)))
-
-  pub open_start : {t : LevelTables} → t ≡ empty_tables → Opening t 0
-  open_start e = rw e (record {
-    below = omega arith;
-    few = omega arith;
-    rest = let a : n - 0 ≡ n = omega arith in rw (a, zero-add);
-  })
 
   softs_next : (i m : ℕ) → n - i ≡ suc m
       → softs_of (penalties (level q (span (entry_at ps ls ws) i (n - i))))
@@ -229,11 +197,3 @@ module _ (t : LevelTables) (s : ℕ) (ms : List ℕ) where
         softs = leb→le (t.count + (length ms - 1)) 4096 g.0;
         members = leb→le (held_in t + length ms) 4096 g.1;
       }
-
--- ---- whether there is room
-
-pub room_yes : (k h n : ℕ) → k + (n - 1) ≤ 4096 → leb (h + n) 4096 ≡ core_fits k h n
-room_yes k h n l = rw (le-leb (k + (n - 1)) 4096 l)
-
-pub room_no : (k h n : ℕ) → 4096 < k + (n - 1) → leb (k + (n - 1)) 4096 ≡ core_fits k h n
-room_no k h n l = rw (lt-leb (k + (n - 1)) 4096 l)

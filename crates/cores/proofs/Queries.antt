@@ -2,8 +2,8 @@
 use mathlib.Core.Path.{◌≡◌, refl, sym, ap, ap₂, ◌∙◌}
 use mathlib.Core.Bool.{Bool, true, false}
 use mathlib.Core.List.{List, [], ◌∷◌, map}
-use Prim.Native.Nat.{ℕ, ◌+◌, ◌≤◌, ◌<◌, max, zero-le}
-use native.Mathlib.Nat.{add-zero, zero-add}
+use Prim.Native.Nat.{ℕ, ◌+◌, ◌≤◌, ◌<◌, max}
+use native.Mathlib.Nat.{add-zero}
 use native.Mathlib.Numerals.{add-one}
 use native.Mathlib.Omega.{arith}
 use lib.Dec.{ltb, eqb}
@@ -11,14 +11,12 @@ use lib.IntN.{ℤ, pos, neg_ℤ}
 use lib.ListN.{length, get_or, set, drop, length-map, drop_of_length-le}
 use lib.Seq.{drop-cons, sets}
 use Rattle.std.proofs.lemmas.List.{get_or-map}
-use borrow.Author.Tests.{lt-ltb, le-ltb, eq-eqb, ne_eqb}
+use borrow.Author.Tests.{lt-ltb, le-ltb}
 use Rattle.asp.specs.Sets.{pick}
-use Rattle.asp.specs.Program.{All}
 use Rattle.asp.specs.Stable.{keep}
 use Rattle.cores.specs.declared.soft.Soft.{Soft}
 use Rattle.cores.specs.Level.{under, assumed_from}
 use Rattle.cores.specs.Columns.{rests_of, raised_by, ListedPlaces, listed_places, assumed_of, entries_among, Pairs, pairs, put_pair, Paired, paired, put_entry, entry_columns}
-use Rattle.cores.proofs.Members.{all_at}
 use Rattle.cores.proofs.Strata.{assumed_yes, assumed_no}
 
 cut : {A : Type 0} (l : List A) (i : ℕ) (d : A) → i < length l → drop i l ≡ get_or l i d ∷ drop (i + 1) l
@@ -29,9 +27,6 @@ cut l i d h = rw (add-one, drop-cons l i d)
 pub record Falling (s : ℕ) (ws : List ℕ) (best i : ℕ) : Type 0 where
   pub below : i ≤ length ws
   pub rest : max best (under s (drop i ws)) ≡ under s ws
-
-pub fall_start : (s : ℕ) (ws : List ℕ) → Falling s ws 0 0
-fall_start s ws = record { below = zero-le; rest = omega arith }
 
 fall_one : (s b w : ℕ) (ws : List ℕ) → max (raised_by s w b) (under s ws) ≡ max b (under s (w ∷ ws))
 unfolding under
@@ -94,12 +89,7 @@ pub record Picking (s : ℕ) (ws ps₀ ps : List ℕ) (n i : ℕ) : Type 0 where
   pub few : n ≤ i
   pub rest : to_come ps n (assumed_from s i (drop i ws)) ≡ assumed_of s ws ps₀
 
-pub pick_start : (s : ℕ) (ws ps : List ℕ) → Picking s ws ps ps 0 0
-pick_start s ws ps = record { below = zero-le; few = zero-le; rest = ap (listed_places (sets ps 0 (assumed_from s 0 ws))) (zero-add _) }
-
 module _ {s : ℕ} {ws ps₀ ps : List ℕ} {n i : ℕ} where
-  pub pick_room : Picking s ws ps₀ ps n i → i < length ws → length ws ≤ 4096 → n < 4096
-  pick_room p h l = omega (arith, p.few)
 
   pub pick_next : Picking s ws ps₀ ps n i → i < length ws → {w : ℕ} → w ≡ get_or ws i 0 → s ≤ w → {x : ℕ} → x ≡ i
       → {ps₁ : List ℕ} → ps₁ ≡ set ps n x → {n₁ : ℕ} → n₁ ≡ n + 1 → Picking s ws ps₀ ps₁ n₁ (i + 1)
@@ -170,25 +160,7 @@ pub record Pairing (ls : List ℤ) (js as' : List ℕ) (t₀ t : Pairs) (n i : �
   pub few : n ≤ i
   pub rest : pairs_to_come ls t n (entries_among js (drop i as')) ≡ entry_columns ls (entries_among js as') t₀
 
-pub pair_start : (ls : List ℤ) (js as' : List ℕ) (t : Pairs) → Pairing ls js as' t t 0 0
-pair_start ls js as' t = record {
-  below = zero-le;
-  few = zero-le;
-  rest = ap (paired (pairs (sets t.places 0 (entries_among js as')) (sets t.wishes 0 (map (λ (p : ℕ). neg_ℤ (get_or ls p (pos 0))) (entries_among js as'))))) (zero-add _);
-}
-
 module _ {ls : List ℤ} {js as' : List ℕ} {t₀ t : Pairs} {n i : ℕ} where
-  pub pair_place : Pairing ls js as' t₀ t n i → All (λ m. m < length ls) as' → i < length as' → {p : ℕ} → p ≡ get_or as' i 0 → p < length ls
-  pair_place c a h e = rw e (all_at (λ m. m < length ls) as' a i h)
-
-  pub pair_core : Pairing ls js as' t₀ t n i → length js ≡ length ls → All (λ m. m < length ls) as' → i < length as' → {p : ℕ} → p ≡ get_or as' i 0 → p < length js
-  pair_core c q a h e = omega (arith, pair_place c a h e)
-
-  pub pair_small : Pairing ls js as' t₀ t n i → length ls ≤ 4096 → All (λ m. m < length ls) as' → i < length as' → {p : ℕ} → p ≡ get_or as' i 0 → p < 4096
-  pair_small c q a h e = omega (arith, pair_place c a h e)
-
-  pub pair_room : Pairing ls js as' t₀ t n i → i < length as' → length as' ≤ 4096 → n < 4096
-  pair_room c h l = omega (arith, c.few)
 
   pub pair_next : Pairing ls js as' t₀ t n i → i < length as' → {p : ℕ} → p ≡ get_or as' i 0 → {t₁ : Pairs} {n₁ : ℕ} → paired t₁ n₁ ≡ put_entry js ls p (paired t n)
       → Pairing ls js as' t₀ t₁ n₁ (i + 1)
@@ -228,11 +200,3 @@ module _ {ls : List ℤ} {js as' : List ℕ} {t₀ t : Pairs} {n i : ℕ} where
       sym (pair_none ls t n)
       ∙ sym (ap (pairs_to_come ls t n) (keep_nil (λ p. eqb (get_or js p 0) 0)))
       ∙ sym (ap (λ (l : List ℕ). pairs_to_come ls t n (entries_among js l)) (drop_of_length-le as' {i = i} h)) ∙ c.rest
-
--- the two ways of `put_entry`
-module _ (js : List ℕ) (ls : List ℤ) (p : ℕ) (ps : List ℕ) (ws : List ℤ) (n : ℕ) where
-  pub entry_yes : {j : ℕ} → j ≡ get_or js p 0 → j ≡ 0 → {x : ℕ} → x ≡ p → {l : ℤ} → l ≡ neg_ℤ (get_or ls p (pos 0)) → paired (pairs (set ps n x) (set ws n l)) (n + 1) ≡ put_entry js ls p (paired (pairs ps ws) n)
-  entry_yes ej z ex el = rw (eq-eqb (get_or js p 0) 0 (sym ej ∙ z), ex, el)
-
-  pub entry_no : {j : ℕ} → j ≡ get_or js p 0 → (j ≡ 0 → ⊥) → paired (pairs ps ws) n ≡ put_entry js ls p (paired (pairs ps ws) n)
-  entry_no ej z = rw (ne_eqb (get_or js p 0) 0 (λ q. z (ej ∙ q)))
