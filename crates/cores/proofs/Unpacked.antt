@@ -8,15 +8,18 @@ use native.Mathlib.Omega.{arith}
 use lib.IntN.{ℤ, pos, nat_abs}
 use lib.ListN.{length, get_or, take, drop, length-map, get_or-map, get_or-eq_default}
 use lib.Seq.{slice, length-slice, get_or-take, get_or-drop, take-take, length-take-le, ext_get_or}
-use Rattle.asp.specs.Sets.{Set}
+use Rattle.asp.specs.Sets.{Set, ind}
 use Rattle.asp.specs.Program.{All}
 use Rattle.asp.specs.Tables.{span}
 use Rattle.cores.specs.declared.soft.Soft.{Soft}
 use Rattle.cores.specs.declared.level.LevelTables.{LevelTables}
+use Rattle.cores.specs.Sums.{wsum}
+use Rattle.cores.specs.Identity.{violated_weight}
 use Rattle.cores.specs.Soft.{Kind, entry, core_number, core_of, kind_at, violated, Earlier, InOrder}
 use Rattle.cores.specs.Judging.{Judging, kind_from, kind_in, kinds_in, members_in, cores_in, violated_at, FormedJudging}
+use Rattle.cores.specs.Columns.{rests_of}
 use Rattle.cores.specs.Tables.{no_soft, held_in, kind_of, level_of, FormedTables, level_judging}
-use Rattle.cores.proofs.Sums.{below_or}
+use Rattle.cores.proofs.Sums.{below_or, wsum_ext}
 use Rattle.cores.proofs.Members.{all_at}
 use Rattle.cores.proofs.Spans.{length_span, get_d_span, span_ext}
 use Rattle.cores.proofs.Columns.{number_of}
@@ -147,3 +150,7 @@ module _ (t : LevelTables) (f : FormedTables t) where
       member_in = member_in;
       falls = falls;
     }
+
+-- the remaining weights of what a set violates by the tables that are lent are those on the level
+pub level_sum : (t : LevelTables) → FormedTables t → (M : Set) → wsum (λ p. ind (violated_at (level_judging t) M p)) (rests_of (take t.count t.softs)) ≡ violated_weight M (level_of t)
+level_sum t f M = wsum_ext _ _ (level_of t).rests (λ p h. ap ind (judging_level t f M p))

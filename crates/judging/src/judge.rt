@@ -22,13 +22,15 @@ impl<'a> Cores<'a> {
     ghost use Rattle.asp.specs.Program.{All};
     ghost use Rattle.asp.specs.Sets.{set_of};
     ghost use Rattle.cores.specs.Judging.{violated_at, Known, Answers, CountAnswers, first_violated};
-    ghost use Rattle.cores.specs.Tables.{held_in, level_judging, SoundTables};
+    ghost use Rattle.cores.specs.Tables.{held_in, SoundTables};
     ghost use Rattle.judging.specs.Lent.{tables_of};
 
     // Those of the level in work.
     pub fn of(t: &'a LevelTables) -> Self
         requires { SoundTables t.now }
-        ensures { tables_of result ≡ level_judging t.now }
+        ensures softs { result.softs.now ≡ take t.now.count t.now.softs }
+        ensures ends { result.ends.now ≡ take (t.now.cores + 1) t.now.ends }
+        ensures members { result.members.now ≡ take (held_in t.now) t.now.members }
     {
         Cores {
             softs: t.soft_literals(),
