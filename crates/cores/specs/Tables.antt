@@ -98,12 +98,12 @@ pub record Tried : Type 0 where
 abbrev pub tried : Result (Unit {0}) Full → LevelTables → Tried
 tried r t = record { answer = r; tables = t }
 
-abbrev pub full : Full
-full = record {}
+abbrev pub full_tables : Full
+full_tables = record {}
 
 -- "If a core would pass either, it isn't recorded and the status is full."
 abbrev pub tried_tables : LevelTables → ℕ → List ℕ → Tried
-tried_tables t s ms = pick (core_fits t.count (held_in t) (length ms)) (tried (Ok tt) (recorded_tables t s ms)) (tried (Err full) t)
+tried_tables t s ms = pick (core_fits t.count (held_in t) (length ms)) (tried (Ok tt) (recorded_tables t s ms)) (tried (Err full_tables) t)
 
 -- ---- what the tables mean
 

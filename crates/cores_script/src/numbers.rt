@@ -1,5 +1,6 @@
 // The numbers of a script: whatever is no digit parts them.
 ghost use Rattle.std.specs.Prelude.{◌<◌, ◌≤◌, length, IfSome};
+ghost use Rattle.std.specs.Iterator.{at_most};
 
 // What is left of a script.
 #[derive(Clone, Copy)]
@@ -7,13 +8,15 @@ pub struct Numbers<'a> {
     pub rest: &'a [u8],
 }
 
-impl<'a> Numbers<'a> {
-    // The next number: 1,000,000,000 stands for all above it.
-    pub fn next(&mut self) -> Option<usize>
-        ensures some { IfSome result (λ n. n ≤ 1000000000) }
-        ensures falls { IfSome result (λ n. length self.new.rest.now < length self.old.rest.now) }
-        ensures rest { length self.new.rest.now ≤ length self.old.rest.now }
-    {
+// 1,000,000,000 stands for all numbers above it.
+impl Iterator for Numbers<'_> {
+    type Item = usize;
+
+    ghost remaining = { λ s. at_most (length s.rest.now) };
+
+    ghost next_gives = { λ s r t. IfSome r (λ n. n ≤ 1000000000) × (length t.rest.now ≤ length s.rest.now) };
+
+    fn next(&mut self) -> Option<usize> {
         let from = self.rest.iter().position(|b| b.is_ascii_digit())?;
         let more = &self.rest[from + 1..];
         let count = more
@@ -24,8 +27,10 @@ impl<'a> Numbers<'a> {
         self.rest = &more[count..];
         Some(value(digits))
     }
+}
 
-    // The same, 0 at the end.
+impl Numbers<'_> {
+    // The next number, 0 at the end.
     pub fn due(&mut self) -> usize
         ensures value { result ≤ 1000000000 }
         ensures rest { length self.new.rest.now ≤ length self.old.rest.now }

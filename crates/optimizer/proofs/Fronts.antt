@@ -13,7 +13,7 @@ use Rattle.cores.specs.Columns.{Columns, ListedPlaces, listed_places, assumed_of
 use Rattle.cores.proofs.Strata.{assumed_length}
 use Rattle.cores.specs.Tables.{FilledColumns}
 use Rattle.cores.specs.declared.level.LevelTables.{LevelTables}
-use Rattle.cores.proofs.Unpacked.{cut_judging, cut_is}
+use Rattle.cores.proofs.Lent.{cut_judging, cut_is}
 use Rattle.cores.proofs.Kept.{assumed_front, entries_front, wishes_front}
 use Rattle.advancing.specs.Turn.{query_tables, query_by, query_of}
 use Rattle.advancing.proofs.Classes.{keep_length}

@@ -2,7 +2,7 @@ use borrow.Author.Rules.{rules}
 use Rattle.std.proofs.Common.{arith, ◌∙◌}
 use Rattle.asp.specs.Sets.{set_of}
 use Rattle.cores.proofs.Columns.{known_none}
-use Rattle.cores.proofs.Unpacked.{level_sum}
+use Rattle.cores.proofs.Lent.{level_sum}
 use Rattle.cores_script.proofs.Measured.{sum_start, sum_yes, sum_no, sum_all}
 use Rattle.cores_script.proofs.measure.violated_weight.Goals as goal
 use Rattle.cores_script.proofs.measure.violated_weight.Goals.{then-violated, else-violated}

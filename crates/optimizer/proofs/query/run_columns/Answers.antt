@@ -4,7 +4,7 @@ use Prim.Native.Nat.{ℕ, ◌≤◌, ◌<◌}
 use lib.ListN.{length}
 use Rattle.asp.specs.Program.{All}
 use Rattle.search.specs.Places.{places}
-use Rattle.cores.proofs.Unpacked.{cut_long}
+use Rattle.cores.proofs.Lent.{cut_long}
 use Rattle.advancing.specs.Source.{source, level_tables}
 use Rattle.advancing.specs.Turn.{QueryTables, blame_tables, turns_of}
 use Rattle.advancing.specs.Ready.{ReadyQuery, GoodBlame}

@@ -3,7 +3,7 @@ use Rattle.search.specs.Places.{places}
 use Rattle.cores.specs.Columns.{columns}
 use Rattle.cores.specs.Level.{under}
 use Rattle.cores.specs.Tables.{FilledColumns}
-use Rattle.cores.proofs.Unpacked.{filled_by, zeros_long}
+use Rattle.cores.proofs.Lent.{filled_by, zeros_long}
 use Rattle.advancing.specs.Source.{source, level_tables}
 use Rattle.advancing.specs.Turn.{QueryTables, blame_tables, turns_of}
 use Rattle.advancing.specs.Ready.{ReadyQuery, GoodBlame}

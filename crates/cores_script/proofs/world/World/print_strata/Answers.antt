@@ -1,5 +1,5 @@
 use Rattle.std.proofs.Common.{arith}
-use Rattle.cores.proofs.Unpacked.{judging_formed}
+use Rattle.cores.proofs.Lent.{judging_formed}
 use Rattle.cores_script.proofs.Laws.{lent_few, cut_long, assumed_few, assumed_inside}
 use Rattle.cores_script.proofs.world.World.print_strata.Goals as goal
 

@@ -1,4 +1,4 @@
-use Rattle.cores.proofs.Unpacked.{judging_formed}
+use Rattle.cores.proofs.Lent.{judging_formed}
 use Rattle.judging.proofs.judge.Cores.of.Goals as goal
 
 pub invariant_of-result : goal.invariant_of-result
