@@ -45,7 +45,6 @@ unfolding lighten
 lighten_next s t ms i h = rw (add-one, drop-cons ms i 0)
 
 module _ {s : ℕ} {ms : List ℕ} {t₀ t : List Soft} {i : ℕ} where
-
   pub lose_next : Losing s ms t₀ t i → i < length ms → {m : ℕ} → m ≡ get_or ms i 0 → {x : Soft} → x ≡ lighter_by s (get_or t m no_soft) → Losing s ms t₀ (set t m x) (i + 1)
   lose_next l h {m} e {x} q = record {
     long = rw length-set l.long;

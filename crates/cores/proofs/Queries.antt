@@ -90,7 +90,6 @@ pub record Picking (s : ℕ) (ws ps₀ ps : List ℕ) (n i : ℕ) : Type 0 where
   pub rest : to_come ps n (assumed_from s i (drop i ws)) ≡ assumed_of s ws ps₀
 
 module _ {s : ℕ} {ws ps₀ ps : List ℕ} {n i : ℕ} where
-
   pub pick_next : Picking s ws ps₀ ps n i → i < length ws → {w : ℕ} → w ≡ get_or ws i 0 → s ≤ w → {x : ℕ} → x ≡ i
       → {ps₁ : List ℕ} → ps₁ ≡ set ps n x → {n₁ : ℕ} → n₁ ≡ n + 1 → Picking s ws ps₀ ps₁ n₁ (i + 1)
   pick_next p h {w} ew l {x} ex {ps₁} ep {n₁} en = record {
@@ -161,7 +160,6 @@ pub record Pairing (ls : List ℤ) (js as' : List ℕ) (t₀ t : Pairs) (n i : �
   pub rest : pairs_to_come ls t n (entries_among js (drop i as')) ≡ entry_columns ls (entries_among js as') t₀
 
 module _ {ls : List ℤ} {js as' : List ℕ} {t₀ t : Pairs} {n i : ℕ} where
-
   pub pair_next : Pairing ls js as' t₀ t n i → i < length as' → {p : ℕ} → p ≡ get_or as' i 0 → {t₁ : Pairs} {n₁ : ℕ} → paired t₁ n₁ ≡ put_entry js ls p (paired t n)
       → Pairing ls js as' t₀ t₁ n₁ (i + 1)
   pair_next c h {p} ep {t₁} {n₁} e = go (eqb (get_or js (get_or as' i 0) 0) 0) refl

@@ -1,12 +1,11 @@
 -- What the script's proofs cite. Assumes nothing.
-use mathlib.Core.Path.{◌≡◌, sym, ap, ◌∙◌}
+use mathlib.Core.Path.{◌≡◌, ap, ◌∙◌}
 use mathlib.Core.Logic.{◌⊎◌, inl, inr}
 use mathlib.Core.List.{List}
 use Prim.Native.Nat.{ℕ, zero, suc, ◌+◌, ◌≤◌, ◌<◌, zero-le}
 use native.Mathlib.Omega.{arith}
 use lib.IntN.{ℤ, pos, nat_abs}
 use lib.ListN.{length, get_or, take, replicate, length-map, length-replicate, get_or-replicate, get_or-eq_default}
-use lib.Seq.{length-take-le}
 use Rattle.asp.specs.Program.{Entry, All}
 use Rattle.asp.specs.Cost.{level}
 use Rattle.asp.specs.Penalty.{Penalty, penalty, penalties}
@@ -14,7 +13,6 @@ use Rattle.asp.specs.Tables.{span, entry_at, entries_of}
 use Rattle.asp.proofs.Penalties.{paid_atom}
 use Rattle.cores.specs.Level.{assumed_from}
 use Rattle.cores.specs.declared.soft.Soft.{Soft}
-use Rattle.cores.specs.declared.level.LevelTables.{LevelTables}
 use Rattle.cores.specs.Tables.{opened_tables, SoundTables}
 use Rattle.cores.specs.Columns.{rests_of, ListedPlaces, listed_places, assumed_of}
 use Rattle.cores.proofs.Sums.{below_or}
@@ -47,14 +45,6 @@ zeros i = go (below_or i 512)
     go : (i < 512) ⊎ (512 ≤ i) → nat_abs (get_or (replicate 512 (pos 0)) i (pos 0)) ≤ 1024
     go (inl h) = rw (get_or-replicate 512 i (pos 0) (pos 0) h) zero-le
     go (inr h) = rw (get_or-eq_default (replicate 512 (pos 0)) (pos 0) {n = i} (rw length-replicate h)) zero-le
-
--- ---- what is lent of the tables
-
-pub lent_few : (t : LevelTables) → SoundTables t → {ss : List Soft} → ss ≡ take t.count t.softs → length ss ≤ 4096
-lent_few t s e = rw e (omega (arith, length-take-le t.count t.softs (omega (arith, s.formed.softs_len, s.formed.softs_few)), s.formed.softs_few))
-
-pub cut_long : {A : Type 0} (l : List A) (n : ℕ) → n ≤ length l → n ≡ length (take n l)
-cut_long l n h = sym (length-take-le n l h)
 
 -- ---- the list of assumed places, as an array
 
