@@ -1,6 +1,5 @@
 // Judging soft literals for a set. Judging one and counting a core's violated members call each other; the core number falls.
 // The counts are kept for the set at hand, so that no core is counted twice.
-ghost use Rattle.std.specs.Prelude.{◌≡◌, ◌+◌, ◌<◌, ◌≤◌, length, set};
 ghost use Rattle.cores.specs.Judging.{FormedJudging};
 ghost use Rattle.cores.specs.Tables.{judging_of};
 
@@ -73,7 +72,7 @@ impl<'a> Cores<'a> {
                 n += 1;
             }
         }
-        keep(counts, j, n);
+        counts[j] = (n + 1) as u16;
         n
     }
 
@@ -107,6 +106,7 @@ impl<'a> Cores<'a> {
         requires known { Known (tables_of self.now) (set_of model.now) counts.old }
         ensures { result ≡ first_violated (violated_at (tables_of self.now) (set_of model.now)) (places.now ++ more.now) }
     {
+        // Kept: a match and no `or_else`, of which the proof did not close, since its closure lends the counts on.
         match self.first_violated(places, model, counts) {
             Some(p) => Some(p),
             None => self.first_violated(more, model, counts),
@@ -126,13 +126,4 @@ impl<'a> Cores<'a> {
         }
         self.judge_with(places, more, model, &mut [0; 4097])
     }
-}
-
-// The count of core j is kept.
-fn keep(counts: &mut [u16], j: usize, n: usize)
-    requires j_in_bounds { j < length counts.old }
-    requires n_bound { n ≤ 4096 }
-    ensures { counts.new ≡ set counts.old j (n + 1) }
-{
-    counts[j] = (n + 1) as u16;
 }
