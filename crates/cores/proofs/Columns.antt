@@ -9,18 +9,18 @@ use native.Mathlib.Numerals.{add-one}
 use native.Mathlib.Omega.{arith}
 use lib.Dec.{eqb, ltb}
 use lib.IntN.{ℤ, pos, nat_abs}
-use lib.ListN.{length, get_or, set, take, drop, replicate, length-replicate, get_or-replicate, length-take, length-map, get_or-map, length-set, drop_of_length-le, get_or-eq_default}
-use lib.Seq.{drop-cons, slice, slice-cons, length-slice, get_or-take, get_or-drop, get_or-set_same, get_or-set_other}
+use lib.ListN.{length, get_or, drop, replicate, length-replicate, get_or-replicate, length-map, get_or-map, drop_of_length-le, get_or-eq_default}
+use lib.Seq.{drop-cons, slice, slice-cons, length-slice, get_or-take, get_or-drop}
 use mir.Syntax.{w32}
 use mir.Val.{to_z, of_z}
 use mir.Facts.{to_z-of_z}
 use Rattle.std.specs.Prelude.{Option, Some, None}
-use borrow.Author.Tests.{eq-eqb, ne_eqb, eqb-true, eqb-false}
+use borrow.Author.Tests.{eq-eqb, ne_eqb, eqb-true}
 use Rattle.asp.specs.Sets.{Set, pick, ind}
 use Rattle.asp.specs.Program.{All}
 use Rattle.asp.specs.Stable.{holds}
 use Rattle.cores.specs.Soft.{Kind, entry, derived, core_number, core_of, kind_at, count_by, judge, Earlier, InOrder}
-use Rattle.cores.specs.Judging.{Judging, judging, kind_from, kind_in, kinds_in, members_in, cores_in, violated_at, count_in, FormedJudging, Known, IsCounted, Stays, Answers, CountAnswers, first_violated}
+use Rattle.cores.specs.Judging.{Judging, kind_from, kind_in, kinds_in, members_in, cores_in, violated_at, count_in, FormedJudging, Known, Stays, Answers, CountAnswers, first_violated}
 use Rattle.asp.proofs.Signed.{small_fits}
 use Rattle.cores.specs.declared.soft.Soft.{Soft}
 use Rattle.cores.specs.Columns.{literals_of, cores_of, indices_of}
@@ -130,9 +130,6 @@ module _ {t : Judging} {M : Set} {p : ℕ} where
 count_cons : (U : ℕ → Bool) (l : List ℕ) (k e : ℕ) → k < e → e ≤ length l → count_by U (slice k e l) ≡ ind (U (get_or l k 0)) + count_by U (slice (k + 1) e l)
 count_cons U l k e h le = rw (add-one, slice-cons k e l 0)
 
-count_none : (U : ℕ → Bool) (l : List ℕ) (k e : ℕ) → e ≤ k → count_by U (slice k e l) ≡ 0
-count_none U l k e h = rw (drop_of_length-le (take e l) {i = k} (rw length-take (omega arith)))
-
 -- n are violated of the members of core j up to place k
 pub record Counting (t : Judging) (M : Set) (j end : ℕ) (before counts : List ℕ) (k n : ℕ) : Type 0 where
   pub known : Known t M counts
@@ -156,27 +153,6 @@ count_start {t} {M} f {counts} o {j} l h {e} ee {k} ek = record {
   inside = omega (arith, f.end_in (j - 1));
   rest = zero-add _ ∙ ap₂ (λ (a b : ℕ). count_by (violated_at t M) (slice a b t.members)) ek ee ∙ sym (ap (count_by (violated_at t M)) (core_slice t f j l h));
 }
-
--- what is kept stays kept, and one more is
-counted_now : (counts : List ℕ) (j n : ℕ) → j < length counts → IsCounted (set counts j (n + 1)) j
-counted_now counts j n h z = absurd (omega (arith, get_or-set_same counts j (n + 1) 0 h))
-
-counted_set : (counts : List ℕ) (j n x : ℕ) → j < length counts → IsCounted counts x → IsCounted (set counts j (n + 1)) x
-counted_set counts j n x h w = go (eqb x j) refl
-  where
-    go : (b : Bool) → eqb x j ≡ b → IsCounted (set counts j (n + 1)) x
-    go true e = subst (IsCounted (set counts j (n + 1))) (sym (eqb-true x j e)) (counted_now counts j n h)
-    go false e = λ z. w (sym (get_or-set_other counts j x (n + 1) 0 (eqb-false x j e)) ∙ z)
-
--- a kept count
-kept_after : (t : Judging) (M : Set) (counts : List ℕ) (j n : ℕ) → Known t M counts → j < length counts → n ≡ count_in t M j → Known t M (set counts j (n + 1))
-kept_after t M counts j n o h q = record { long = rw length-set o.long; kept = λ i z. go i z (eqb i j) refl }
-  where
-    go : (i : ℕ) → (get_or (set counts j (n + 1)) i 0 ≡ 0 → ⊥) → (b : Bool) → eqb i j ≡ b → get_or (set counts j (n + 1)) i 0 ≡ count_in t M i + 1
-    go i z true r = rw (eqb-true i j r, get_or-set_same counts j (n + 1) 0 h, q)
-    go i z false r =
-        let x : get_or (set counts j (n + 1)) i 0 ≡ get_or counts i 0 = get_or-set_other counts j i (n + 1) 0 (eqb-false i j r) in
-        x ∙ o.kept i (λ w. z (x ∙ w))
 
 module _ {t : Judging} {M : Set} {j e : ℕ} {before counts : List ℕ} {k n : ℕ} where
   -- the place of a member
@@ -212,11 +188,6 @@ module _ {t : Judging} {M : Set} {j e : ℕ} {before counts : List ℕ} {k n : �
         let v : violated_at t M (get_or t.members k 0) ≡ false = sym (ap (violated_at t M) em) ∙ sym a.is ∙ q in
         omega (arith, c.rest, ap ind v, count_cons (violated_at t M) t.members k e h (omega (arith, f.end_in j, c.ends)));
   }
-
--- the same with the columns in sight, as the code's needs have them
-module _ {ls : List ℤ} {js is es ms : List ℕ} where
-  pub small_at : FormedJudging (judging ls js is es ms) → (p : ℕ) → nat_abs (get_or ls p (pos 0)) ≤ 1024
-  small_at f p = f.small p
 
 -- ---- the first violated place of a list
 

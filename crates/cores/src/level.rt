@@ -40,6 +40,7 @@ impl LevelTables {
     }
 
     // The level of a priority: the soft literals of its entries, in text order, in emptied tables.
+    // Kept: the entries as three slices and a count, as the service's tables lie and crate `asp` reads them.
     pub fn opened<'a>(
         priorities: &'a [i32],
         literals: &'a [i32],

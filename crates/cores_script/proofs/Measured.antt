@@ -67,9 +67,6 @@ inside : (ss : List Soft) (p : ℕ) → p < length ss → p < length (rests_of s
 inside ss p h = omega (arith, length-map ss (λ (r : Soft). r.weight))
 
 module _ (ss : List Soft) {t : Judging} {M : Set} {counts : List ℕ} {total p : ℕ} where
-  pub sum_fits : Summing t M (rests_of ss) counts total p → length ss ≤ 4096 → p < length ss → total ≤ 17592186044416
-  sum_fits s h l = omega (arith, s.bound)
-
   -- the weight at place p is added if it is violated
   pub sum_yes : Summing t M (rests_of ss) counts total p → p < length ss → {b : Bool} {c : List ℕ} → Answers t M counts b (violated_at t M p) c → length c ≡ length counts → b ≡ true
       → (d : Soft) → {w : ℕ} → w ≡ (get_or ss p d).weight → w < 4294967296 → {n : ℕ} → n ≡ total + w → Summing t M (rests_of ss) c n (p + 1)

@@ -6,7 +6,7 @@
 //   5 S   prints the next stratum below S, how many are assumed at S, and how many of them are an entry's
 #![tactic(auto)]
 
-ghost use Rattle.std.specs.Prelude.{◌≤◌, nat_abs, length};
+ghost use Rattle.std.specs.Prelude.{◌≤◌, length};
 
 use numbers::Numbers;
 use std::io;

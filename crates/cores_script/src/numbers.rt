@@ -3,7 +3,7 @@ ghost use Rattle.std.specs.Prelude.{◌<◌, ◌≤◌, length, IfSome};
 ghost use Rattle.std.specs.Iterator.{at_most};
 
 // What is left of a script.
-#[derive(Clone, Copy)]
+#[derive(Drop)]
 pub struct Numbers<'a> {
     pub rest: &'a [u8],
 }

@@ -39,6 +39,8 @@ impl<'a> Cores<'a> {
     }
 
     // Whether the soft literal at place p is violated.
+    // Kept: the set, a slice that is long enough, and the counts beside it stay parameters. A struct with the `&mut` in it would have to promise at each call that it holds the same
+    // tables and the same set, and an array for the set would ask more of callers.
     #[cycle(count_violated)]
     pub fn violated(&self, p: usize, model: &[u8], counts: &mut [u16]) -> bool
         requires p_in_bounds { p < length self.now.softs.now }

@@ -1,5 +1,5 @@
 // What a query needs of the level's soft literals: the next stratum, the assumed places, and those of entries with what they wish for.
-ghost use Rattle.std.specs.Prelude.{◌≡◌, ℕ, ◌<◌, ◌≤◌, length, map, get_or, pos, nat_abs};
+ghost use Rattle.std.specs.Prelude.{◌≡◌, ℕ, ◌<◌, ◌≤◌, length, get_or, pos, nat_abs};
 ghost use Rattle.asp.specs.Program.{All};
 ghost use Rattle.cores.specs.Level.{under};
 ghost use Rattle.cores.specs.Columns.{literals_of, cores_of, rests_of, listed_places, assumed_of, pairs, paired, put_entry, entries_among, entry_columns};
