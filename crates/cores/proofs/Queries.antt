@@ -16,13 +16,17 @@ use Rattle.asp.specs.Sets.{pick}
 use Rattle.asp.specs.Stable.{keep}
 use Rattle.cores.specs.declared.soft.Soft.{Soft}
 use Rattle.cores.specs.Level.{under, assumed_from}
-use Rattle.cores.specs.Columns.{rests_of, raised_by, ListedPlaces, listed_places, assumed_of, entries_among, Pairs, pairs, put_pair, Paired, paired, put_entry, entry_columns}
+use Rattle.cores.specs.Columns.{rests_of, ListedPlaces, listed_places, assumed_of, entries_among, Pairs, pairs, put_pair, Paired, paired, put_entry, entry_columns}
 use Rattle.cores.proofs.Strata.{assumed_yes, assumed_no}
 
 cut : {A : Type 0} (l : List A) (i : ℕ) (d : A) → i < length l → drop i l ≡ get_or l i d ∷ drop (i + 1) l
 cut l i d h = rw (add-one, drop-cons l i d)
 
 -- ---- the next stratum
+
+-- the greater of w and the best so far, if w is below s
+abbrev raised_by : ℕ → ℕ → ℕ → ℕ
+raised_by s w best = pick (ltb w s) (max w best) best
 
 pub record Falling (s : ℕ) (ws : List ℕ) (best i : ℕ) : Type 0 where
   pub below : i ≤ length ws

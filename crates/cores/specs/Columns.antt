@@ -1,5 +1,5 @@
 -- The columns of a table of soft literals, and the lists of places that a query works with. Assumes nothing: these are definitions.
-use Rattle.std.specs.Prelude.{List, map, ℕ, ◌+◌, max, eqb, ltb, ℤ, pos, neg_ℤ, length, get_or, set}
+use Rattle.std.specs.Prelude.{List, map, ℕ, ◌+◌, eqb, ℤ, pos, neg_ℤ, length, get_or, set}
 use Rattle.std.proofs.lemmas.List.Edits.{sets}
 use Rattle.asp.specs.Sets.{pick}
 use Rattle.asp.specs.Stable.{keep}
@@ -18,10 +18,6 @@ indices_of ss = map (λ (r : Soft). r.index) ss
 
 abbrev pub rests_of : List Soft → List ℕ
 rests_of ss = map (λ (r : Soft). r.weight) ss
-
--- the greater of w and the best so far, if w is below s
-abbrev pub raised_by : ℕ → ℕ → ℕ → ℕ
-raised_by s w best = pick (ltb w s) (max w best) best
 
 -- a table of places, and how many of them are filled
 pub record ListedPlaces : Type 0 where
