@@ -7,6 +7,7 @@ use lib.Dec.{ltb}
 use lib.IntN.{ℤ, pos}
 use lib.ListN.{length, get_or, take, drop, replicate}
 use lib.Signed.{lt_z}
+use Rattle.std.specs.Prelude.{is_err}
 use Rattle.asp.specs.declared.entries.Entry.{Entry}
 use Rattle.asp.specs.Sets.{Set, set_of, pick}
 use Rattle.asp.specs.Program.{Rule}
@@ -87,7 +88,7 @@ module _ (L K : Levels) (e : L.levels ≡ K.levels) (i : entries_in L ≡ entrie
       ap₂ (λ (m : ℕ) (us : List ℤ). pick (cheaper lt_z (take m us) (take m w.uppers)) (work w.level w.tables w.stratum w.lowers us v) w) many_same (costs_same v)
 
   tried_same : (w : Work) (x : Tried) → tried_work L w x ≡ tried_work K w x
-  tried_same w x = ap (pick x.full (placed Full w)) (settle_same (with_tables w x.tables))
+  tried_same w x = ap (pick (is_err x.answer) (placed Full w)) (settle_same (with_tables w x.tables))
 
   first_same : (w : Work) (v : List ℕ) (y : Turn) → finish_first L w v y ≡ finish_first K w v y
   first_same w v Going = refl

@@ -29,7 +29,7 @@ use Rattle.cores.specs.declared.soft.Soft.{Soft}
 use Rattle.cores.specs.declared.level.LevelTables.{LevelTables}
 use Rattle.cores.proofs.Links.{rests_count}
 use Rattle.cores.proofs.Strata.{assumed_length, assumed_distinct, assumed_heavy, every_assumed}
-use Rattle.cores.proofs.Unpacked.{judging_formed, judging_level}
+use Rattle.cores.proofs.Lent.{judging_formed, judging_level}
 use Rattle.advancing.specs.Source.{Levels, Source, many, level_at, start_at, penalties_at, penalties_in, rules_in, FormedSource}
 use Rattle.advancing.specs.Turn.{query_of, assumed_in, entry_places, wished_in, settled_from, in_class}
 use Rattle.advancing.specs.State.{first_work}

@@ -10,7 +10,7 @@ use Rattle.search.proofs.Steps.{fresh_sound}
 use Rattle.cores.specs.Level.{assumed_from}
 use Rattle.cores.specs.Tables.{empty_tables}
 use Rattle.cores.proofs.Kept.{empty_sound}
-use Rattle.cores.proofs.Unpacked.{judging_formed}
+use Rattle.cores.proofs.Lent.{judging_formed}
 use Rattle.advancing.specs.Source.{Source, FormedSource}
 use Rattle.advancing.specs.Turn.{query_of}
 use Rattle.advancing.specs.State.{first_work}

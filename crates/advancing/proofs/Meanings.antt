@@ -12,6 +12,7 @@ use lib.ListN.{length, get_or, set, take, length-set, length-map}
 use lib.Signed.{lt_z}
 use lib.Seq.{get_or-set_same, get_or-set_other}
 use borrow.Author.Tests.{lt-ltb, le-ltb}
+use Rattle.std.specs.Prelude.{Ok, Err}
 use Rattle.asp.specs.declared.entries.Entry.{Entry}
 use Rattle.asp.specs.Sets.{Set, set_of, pick}
 use Rattle.asp.specs.Literal.{same_ℤ}
@@ -23,7 +24,7 @@ use Rattle.asp.proofs.Penalties.{paid_atom, rise_above, rise_none, above_none, a
 use Rattle.cores.specs.Soft.{entry}
 use Rattle.cores.specs.Level as lev
 use Rattle.cores.specs.Level.{weighty, greatest, under, recorded, derived_from, fewer, core_fits, room, FormedPenalties}
-use Rattle.cores.specs.Tables.{SoundTables, level_of, held_in, recorded_tables, Room, tried, tried_tables}
+use Rattle.cores.specs.Tables.{SoundTables, level_of, held_in, recorded_tables, Room, tried, tried_tables, full_tables}
 use Rattle.cores.specs.declared.level.LevelTables.{LevelTables}
 use Rattle.cores.proofs.Kept.{level_formed, opened_means, opened_sound, recorded_means, recorded_sound, core_counted, level_penalties, weighty_all}
 use Rattle.cores.proofs.Links.{fits_room}
@@ -330,7 +331,7 @@ module _ (S : Source) (f : FormedSource S) where
     core_means c = go (core_fits t.count (held_in t) (length ms)) (room (level_of t) ms) refl (fits_room t o.sound.formed ms)
       where
         go : (a b : Bool) → core_fits t.count (held_in t) (length ms) ≡ a → core_fits t.count (held_in t) (length ms) ≡ b
-            → Opened c (tried_work L w (pick a (tried false (recorded_tables t s ms)) (tried true t))) (pick b (settle c (with_core (work_of L w) ms)) (full c (work_of L w)))
+            → Opened c (tried_work L w (pick a (tried (Ok tt) (recorded_tables t s ms)) (tried (Err full_tables) t))) (pick b (settle c (with_core (work_of L w) ms)) (full c (work_of L w)))
         go true true q e = subst (λ (x : abstract.Work). Opened c (settle_of L recorded_work) (settle c x)) (recorded_work_lem q) (settle_means c recorded_work (recorded_order q))
         go false false q e = record { means = refl; order = o }
         go true false q e = let z : ◌≡◌ {A = ℕ} 0 1 = cc in absurd (omega arith)

@@ -10,6 +10,7 @@ use lib.Dec.{eqb}
 use lib.ListN.{length, get_or, set, drop, replicate, length-set, length-replicate, get_or-replicate}
 use lib.Seq.{drop-cons, drop-set-lt, get_or-set_same, get_or-set_other}
 use borrow.Author.Tests.{eq-eqb, ne_eqb, eqb-false}
+use Rattle.std.specs.Prelude.{Option, Some, None}
 use Rattle.asp.specs.Sets.{Set, set_of, pick}
 use Rattle.asp.specs.Program.{All, Out, Distinct}
 use Rattle.asp.specs.Stable.{member}
@@ -23,9 +24,6 @@ use Rattle.search.proofs.Steps.{back_sound, test_says, step_sound}
 use Rattle.cores.specs.Sums.{Holds}
 use Rattle.cores.proofs.Sums.{members_weigh, wsum_replicate_one}
 use Rattle.cores.specs.Judging.{violated_at, first_violated}
-use Rattle.cores.specs.declared.judge.Judged.{Judged}
-use Rattle.cores.specs.declared.judge.Judged.TheVariants.{Met}
-use Rattle.cores.specs.declared.judge.Judged.TheVariants as judged
 use Rattle.advancing.specs.declared.state.Blame.{Blame}
 use Rattle.advancing.specs.declared.state.Turn.TheVariants.{Going, Without}
 use Rattle.advancing.specs.declared.state.Judgement.{Judgement}
@@ -193,12 +191,12 @@ module _ {S : Source} {q : QueryTables} {b : Blame} (r : ReadyQuery S q) (g : Go
 
   -- ---- a violated soft literal has a place in the table
 
-  first_in_lem : (P : ℕ → Type 0) (U : ℕ → Bool) (ps : List ℕ) → All P ps → (p : ℕ) → judged.Violated p ≡ first_violated U ps → P p
+  first_in_lem : (P : ℕ → Type 0) (U : ℕ → Bool) (ps : List ℕ) → All P ps → (p : ℕ) → Some p ≡ first_violated U ps → P p
   unfolding first_violated
   first_in_lem P U [] a p e = let z : ◌≡◌ {A = ℕ} 0 1 = cc in absurd (omega arith)
   first_in_lem P U (x ∷ ps) a p e = go (U x) refl (first_in_lem P U ps a.1 p) e
     where
-      go : (y : Bool) → U x ≡ y → (judged.Violated p ≡ first_violated U ps → P p) → judged.Violated p ≡ pick y (judged.Violated x) (first_violated U ps) → P p
+      go : (y : Bool) → U x ≡ y → (Some p ≡ first_violated U ps → P p) → Some p ≡ pick y (Some x) (first_violated U ps) → P p
       go true z f k = let w : p ≡ x = cc in rw w a.0
       go false z f k = f k
 
@@ -209,9 +207,9 @@ module _ {S : Source} {q : QueryTables} {b : Blame} (r : ReadyQuery S q) (g : Go
   pub violated_in_lem : (v : List ℕ) {p : ℕ} → Violated p ≡ judge_full S q (blamed_of b) v → p < softs q
   violated_in_lem v {p} e = go (in_class S q.level q.lowers (set_of v)) refl e
     where
-      soft : (j : Judged) → Violated p ≡ soft_or_wanted j → j ≡ first_violated (violated_at q.judging (set_of v)) (blamed_of b ++ q.assumed) → p < softs q
-      soft Met k z = let w : ◌≡◌ {A = ℕ} 0 1 = cc in absurd (omega arith)
-      soft (judged.Violated x) k z =
+      soft : (j : Option ℕ) → Violated p ≡ soft_or_wanted j → j ≡ first_violated (violated_at q.judging (set_of v)) (blamed_of b ++ q.assumed) → p < softs q
+      soft None k z = let w : ◌≡◌ {A = ℕ} 0 1 = cc in absurd (omega arith)
+      soft (Some x) k z =
           let w : p ≡ x = cc in
           rw w (first_in_lem (λ m. m < softs q) (violated_at q.judging (set_of v)) (blamed_of b ++ q.assumed) (all_both (λ m. m < softs q) (blamed_of b) q.assumed g.inside r.assumed_in_lem) x z)
 

@@ -12,6 +12,7 @@ use lib.IntN.{ℤ, pos, neg_ℤ}
 use lib.ListN.{length, get_or, take, get_or-map}
 use lib.Seq.{ext_get_or}
 use borrow.Author.Tests.{eqb-true}
+use Rattle.std.specs.Prelude.{Option, Some, None}
 use Rattle.asp.specs.Sets.{Set, pick}
 use Rattle.asp.specs.Program.{All}
 use Rattle.asp.specs.Stable.{is_stable, member, keep}
@@ -39,13 +40,10 @@ use Rattle.cores.specs.Soft.{entry, derived, core_number, kind_at}
 use Rattle.cores.specs.Level.{assumed_from}
 use Rattle.cores.specs.Judging.{kind_from, violated_at, first_violated}
 use Rattle.cores.specs.Tables.{SoundTables, no_soft, kind_of, level_of, level_judging}
-use Rattle.cores.specs.declared.judge.Judged.{Judged}
-use Rattle.cores.specs.declared.judge.Judged.TheVariants.{Met}
-use Rattle.cores.specs.declared.judge.Judged.TheVariants as judged
 use Rattle.cores.specs.declared.soft.Soft.{Soft}
 use Rattle.cores.specs.declared.level.LevelTables.{LevelTables}
 use Rattle.cores.proofs.Spans.{get_d_span}
-use Rattle.cores.proofs.Unpacked.{judging_level}
+use Rattle.cores.proofs.Lent.{judging_level}
 use Rattle.advancing.specs.declared.state.Blame.{Blame}
 use Rattle.advancing.specs.declared.state.Work.{Work}
 use Rattle.advancing.specs.declared.state.Judgement.TheVariants.{Dead}
@@ -160,9 +158,9 @@ costs_same S f lowers g M (suc j) h =
     ∙ ap (λ (b : Bool). b && costs_by M (past_at S.levels j) (settled_at S.levels lowers j))
     (ap₂ same_ℤ (cost_above S f M j) (g j (omega arith)) ∙ above_same (start_at S.levels j) (charge M (penalties_at S.levels j)) (rise (start_at S.levels j) (get_or lowers j (pos 0))))
 
-judged_same : (c : Bool) (j : Judged) → verdict_by (pick c (soft_or_wanted j) Dead) ≡ pick c (met_or j) (conflict none)
-judged_same true Met = refl
-judged_same true (judged.Violated p) = refl
+judged_same : (c : Bool) (j : Option ℕ) → verdict_by (pick c (soft_or_wanted j) Dead) ≡ pick c (met_or j) (conflict none)
+judged_same true None = refl
+judged_same true (Some p) = refl
 judged_same false j = refl
 
 -- ---- THE VERDICT OF A LEVEL'S QUERY
@@ -231,7 +229,7 @@ module _ (S : Source) (b : Blame) (e : blamed_of b ≡ []) (t : Places) (d : Sou
   unfolding query_of assumed_from settled_from first_violated
   start_full =
       ap₂ (λ (M : Set) (ms : List ℕ). verdict_by (pick (in_class S 0 (first_work S.levels).lowers M) (soft_or_wanted (first_violated (violated_at (level_judging (first_work S.levels).tables) M) (ms ++ []))) Dead)) (set_is S.n t d) e
-      ∙ judged_same (is_stable S.n (rules_in S) seen_set && true) Met
+      ∙ judged_same (is_stable S.n (rules_in S) seen_set && true) None
       ∙ ap (λ (x : Bool). pick x wanted (conflict none)) (and_true (is_stable S.n (rules_in S) seen_set))
 
   start_test_is : test_of (rule_tables S) S.n (assumed_by S (work_query (first_work S.levels)) b) t.value t.len

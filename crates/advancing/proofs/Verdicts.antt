@@ -8,6 +8,7 @@ use lib.Dec.{T, eqb}
 use lib.IntN.{pos}
 use lib.ListN.{length, get_or, set}
 use borrow.Author.Tests.{eqb-false}
+use Rattle.std.specs.Prelude as rust
 use Rattle.asp.specs.Sets.{Set, set_of, Only, pick}
 use Rattle.asp.specs.Program.{All}
 use Rattle.asp.specs.Stable.{member, holds}
@@ -26,9 +27,6 @@ use Rattle.search.proofs.Unbroken.{NoneBroken}
 use Rattle.search.proofs.Agree.{set_only}
 use Rattle.search.proofs.Steps.{set_is, back_advances, push_advances, open_short, test_says, test_right, full_dead}
 use Rattle.cores.specs.Judging.{violated_at, first_violated}
-use Rattle.cores.specs.declared.judge.Judged.{Judged}
-use Rattle.cores.specs.declared.judge.Judged.TheVariants.{Met}
-use Rattle.cores.specs.declared.judge.Judged.TheVariants as judged
 use Rattle.cores.proofs.Kept.{all_met, one_violated}
 use Rattle.advancing.specs.declared.state.Blame.{Blame}
 use Rattle.advancing.specs.declared.state.Turn.{Turn}
@@ -168,9 +166,9 @@ module _ {S : Source} {q : QueryTables} (r : ReadyQuery S q) {Class : Set → Ty
         dead : (Goal : Set → Type 0) → ((M : Set) → Goal M → Only S.n M) → (¬ Goal found) → search.Dead Goal (trail_of t)
         dead = full_dead S.n (trail_of t) d.formed full
 
-        soft : in_class S q.level q.lowers found ≡ true → (j : Judged) → first_violated (violated_at q.judging found) list ≡ j → search.Says problem_of (trail_of t) (verdict_by (soft_or_wanted j))
-        soft c Met k = (f.class_yes found only_set c, f.every found (all_second (λ p. violated_at q.judging found p ≡ false) (blamed_of b) q.assumed (all_met (violated_at q.judging found) list k)))
-        soft c (judged.Violated p) k =
+        soft : in_class S q.level q.lowers found ≡ true → (j : rust.Option ℕ) → first_violated (violated_at q.judging found) list ≡ j → search.Says problem_of (trail_of t) (verdict_by (soft_or_wanted j))
+        soft c rust.None k = (f.class_yes found only_set c, f.every found (all_second (λ p. violated_at q.judging found p ≡ false) (blamed_of b) q.assumed (all_met (violated_at q.judging found) list k)))
+        soft c (rust.Some p) k =
             let z = one_violated (violated_at q.judging found) list p k in
             let as' = z.1 Assumes (all_join Assumes (blamed_of b) q.assumed a f.each) in
             (as', dead (λ M. Class M × Meets M p) (λ M c. f.only M c.0) (λ c. f.unmet found p as' z.0 c.1))

@@ -1,6 +1,6 @@
 -- The end of a query, on the tables: the best model, the stratum, the core, settling and opening levels. Document 01, "Question and path" and "Wishes and cores".
 -- Assumes nothing: these are definitions.
-use Rattle.std.specs.Prelude.{List, ◌++◌, ℕ, zero, suc, ◌+◌, ◌-◌, ltb, ℤ, pos, get_or, set, take, drop, replicate}
+use Rattle.std.specs.Prelude.{List, ◌++◌, ℕ, zero, suc, ◌+◌, ◌-◌, ltb, ℤ, pos, get_or, set, take, drop, replicate, is_err}
 use Rattle.std.specs.Int.Signed.{lt_z}
 use Rattle.asp.specs.Sets.{set_of, pick}
 use Rattle.asp.specs.Literal.{same_ℤ}
@@ -72,7 +72,7 @@ abbrev pub with_tables : Work → LevelTables → Work
 with_tables w t = work w.level t w.stratum (set w.lowers w.level (above (get_or w.lowers w.level (pos 0)) w.stratum)) w.uppers w.best
 
 abbrev pub tried_work : Levels → Work → Tried → Placed
-tried_work L w x = pick x.full (placed Full w) (settle_of L (with_tables w x.tables))
+tried_work L w x = pick (is_err x.answer) (placed Full w) (settle_of L (with_tables w x.tables))
 
 -- ---- the end of any query
 

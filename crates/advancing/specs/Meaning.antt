@@ -1,6 +1,6 @@
 -- What a state on tables means: a state of the machine of `optimum`, over sets and lists; and the tests of a trail that the tables come to, as that machine's tests.
 -- Assumes nothing: these are definitions.
-use Rattle.std.specs.Prelude.{Bool, true, false, ◌&&◌, List, [], ◌∷◌, ◌++◌, map, ℕ, zero, suc, ◌+◌, ◌-◌, eqb, ℤ, pos, neg_ℤ, length, get_or}
+use Rattle.std.specs.Prelude.{Option, Some, None, Bool, true, false, ◌&&◌, List, [], ◌∷◌, ◌++◌, map, ℕ, zero, suc, ◌+◌, ◌-◌, eqb, ℤ, pos, neg_ℤ, length, get_or}
 use Rattle.std.proofs.Math.Option.{none, some}
 use Rattle.asp.specs.Sets.{Set, set_of, pick}
 use Rattle.asp.specs.Stable.{is_stable, member, keep}
@@ -16,8 +16,6 @@ use Rattle.cores.specs.Soft.{Kind, entry, derived, core_number, kind_at, violate
 use Rattle.cores.specs.Level as lev
 use Rattle.cores.specs.Judging.{first_violated}
 use Rattle.cores.specs.Tables.{level_of}
-use Rattle.cores.specs.declared.judge.Judged.{Judged}
-use Rattle.cores.specs.declared.judge.Judged.TheVariants.{Met, Violated}
 use Rattle.optimum.specs.Optimize.{State, first, working, optimum, incoherent, full, Tests}
 use Rattle.optimum.specs.Optimize as abstract
 use Rattle.advancing.specs.declared.state.Phase.{Phase}
@@ -100,9 +98,9 @@ costs_by M (l ∷ ls) [] = false
 costs_by M (l ∷ ls) (b ∷ bs) = eqb (charge M l) b && costs_by M ls bs
 
 -- all that are assumed are met, or the one to blame
-abbrev pub met_or : Judged → Verdict
-met_or Met = wanted
-met_or (Violated p) = conflict (some p)
+abbrev pub met_or : Option ℕ → Verdict
+met_or None = wanted
+met_or (Some p) = conflict (some p)
 
 -- the verdict on the set of a trail that holds all atoms
 abbrev pub set_verdict : Source → abstract.Work → List ℕ → Set → Verdict

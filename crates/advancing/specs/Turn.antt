@@ -1,6 +1,6 @@
 -- One step of a query, on the tables: the test, the judgement of a full trail, the move, the blame. Document 01, "Question and path"; what it leaves free is as docs/DECISIONS.md says.
 -- Assumes nothing: these are definitions.
-use Rattle.std.specs.Prelude.{Bool, true, false, ◌&&◌, List, [], ◌∷◌, ◌++◌, map, ℕ, zero, suc, ◌+◌, ◌-◌, eqb, ℤ, pos, neg_ℤ, length, get_or, set, drop}
+use Rattle.std.specs.Prelude.{Option, Some, None, Bool, true, false, ◌&&◌, List, [], ◌∷◌, ◌++◌, map, ℕ, zero, suc, ◌+◌, ◌-◌, eqb, ℤ, pos, neg_ℤ, length, get_or, set, drop}
 use Rattle.asp.specs.Sets.{Set, set_of, pick}
 use Rattle.asp.specs.Stable.{is_stable, member}
 use Rattle.asp.specs.Literal.{same_ℤ}
@@ -14,9 +14,6 @@ use Rattle.search.specs.declared.step.Tested.TheVariants.{RuleBroken, Full, Soft
 use Rattle.cores.specs.Level.{assumed_from}
 use Rattle.cores.specs.Judging.{Judging, violated_at, first_violated}
 use Rattle.cores.specs.Columns.{entries_among}
-use Rattle.cores.specs.declared.judge.Judged.{Judged}
-use Rattle.cores.specs.declared.judge.Judged.TheVariants.{Met}
-use Rattle.cores.specs.declared.judge.Judged.TheVariants as judged
 use Rattle.cores.specs.declared.level.LevelTables.{LevelTables}
 use Rattle.cores.specs.Tables.{level_of, level_judging}
 use Rattle.advancing.specs.declared.state.Blame.{Blame}
@@ -94,9 +91,9 @@ settled_from f lowers i (suc j) = same_ℤ (f i) (get_or lowers i (pos 0)) && se
 abbrev pub in_class : Source → ℕ → List ℤ → Set → Bool
 in_class S level lowers M = is_stable S.n (rules_in S) M && settled_from (λ j. cost M (level_at S.levels j)) lowers 0 level
 
-abbrev pub soft_or_wanted : Judged → Judgement
-soft_or_wanted Met = Wanted
-soft_or_wanted (judged.Violated p) = Violated p
+abbrev pub soft_or_wanted : Option ℕ → Judgement
+soft_or_wanted None = Wanted
+soft_or_wanted (Some p) = Violated p
 
 -- ".. and meets certain wishes": one that is blamed already comes first
 abbrev pub judge_full : Source → QueryTables → List ℕ → List ℕ → Judgement

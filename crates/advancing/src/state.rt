@@ -7,7 +7,7 @@ use cores::level::LevelTables;
 use search::trail::Places;
 
 // Where it stands: in the first query, on a level, or ended.
-#[derive(Clone, Copy)]
+#[derive(Clone, Copy, PartialEq, Eq, Debug)]
 pub enum Phase {
     First,
     Level,
@@ -16,15 +16,14 @@ pub enum Phase {
     Full,
 }
 
-pub fn is_running(p: Phase) -> bool
-    ensures { result ≡ is_running p }
-{
-    match p {
-        Phase::First => true,
-        Phase::Level => true,
-        Phase::Optimum => false,
-        Phase::Incoherent => false,
-        Phase::Full => false,
+impl Phase {
+    pub fn is_running(self) -> bool
+        ensures { result ≡ is_running self }
+    {
+        match self {
+            Phase::First | Phase::Level => true,
+            Phase::Optimum | Phase::Incoherent | Phase::Full => false,
+        }
     }
 }
 
@@ -59,7 +58,7 @@ pub struct Search {
 }
 
 // What one step of a query comes to: it goes on, or ends without a model, or with the one on the trail.
-#[derive(Clone, Copy)]
+#[derive(Clone, Copy, PartialEq, Eq, Debug)]
 pub enum Turn {
     Going,
     Without,
@@ -67,7 +66,7 @@ pub enum Turn {
 }
 
 // What a full trail is: wanted; refuted by the rules or the settled costs; or with an assumed soft literal that it violates.
-#[derive(Clone, Copy)]
+#[derive(Clone, Copy, PartialEq, Eq, Debug)]
 pub enum Judgement {
     Wanted,
     Dead,
@@ -78,9 +77,5 @@ pub enum Judgement {
 pub fn counted(c: u64, made: u32) -> u64
     ensures { result ≡ bumped_by made c }
 {
-    let k = made as u64;
-    if 18446744073709551615 - k < c {
-        return 18446744073709551615;
-    }
-    c + k
+    c.saturating_add(u64::from(made))
 }

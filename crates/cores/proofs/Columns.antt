@@ -9,19 +9,25 @@ use native.Mathlib.Numerals.{add-one}
 use native.Mathlib.Omega.{arith}
 use lib.Dec.{eqb, ltb}
 use lib.IntN.{ℤ, pos, nat_abs}
-use lib.ListN.{length, get_or, set, take, drop, replicate, length-replicate, get_or-replicate, length-take, length-set, drop_of_length-le, get_or-eq_default}
-use lib.Seq.{drop-cons, slice, slice-cons, length-slice, get_or-take, get_or-drop, get_or-set_same, get_or-set_other}
-use borrow.Author.Tests.{eq-eqb, ne_eqb, eqb-true, eqb-false}
+use lib.ListN.{length, get_or, drop, replicate, length-replicate, get_or-replicate, length-map, get_or-map, drop_of_length-le, get_or-eq_default}
+use lib.Seq.{drop-cons, slice, slice-cons, length-slice, get_or-take, get_or-drop}
+use mir.Syntax.{w32}
+use mir.Val.{to_z, of_z}
+use mir.Facts.{to_z-of_z}
+use Rattle.std.specs.Prelude.{Option, Some, None}
+use borrow.Author.Tests.{eq-eqb, ne_eqb, eqb-true}
 use Rattle.asp.specs.Sets.{Set, pick, ind}
 use Rattle.asp.specs.Program.{All}
 use Rattle.asp.specs.Stable.{holds}
 use Rattle.cores.specs.Soft.{Kind, entry, derived, core_number, core_of, kind_at, count_by, judge, Earlier, InOrder}
-use Rattle.cores.specs.declared.judge.Judged.{Judged}
-use Rattle.cores.specs.declared.judge.Judged.TheVariants.{Met, Violated}
-use Rattle.cores.specs.Judging.{Judging, judging, kind_from, kind_in, kinds_in, members_in, cores_in, violated_at, count_in, FormedJudging, Known, IsCounted, Stays, Answers, CountAnswers, first_violated}
+use Rattle.cores.specs.Judging.{Judging, kind_from, kind_in, kinds_in, members_in, cores_in, violated_at, count_in, FormedJudging, Known, Stays, Answers, CountAnswers, first_violated}
+use Rattle.asp.proofs.Signed.{small_fits}
+use Rattle.cores.specs.declared.soft.Soft.{Soft}
+use Rattle.cores.specs.Columns.{literals_of, cores_of, indices_of}
+use Rattle.cores.specs.Tables.{no_soft, judging_of}
 use Rattle.cores.proofs.Sums.{below_or}
 use Rattle.cores.proofs.Judgements.{unfolds}
-use Rattle.cores.proofs.Members.{at_all, all_at}
+use Rattle.cores.proofs.Members.{at_all}
 use Rattle.cores.proofs.Spans.{length_span, get_d_span}
 
 -- ---- the kinds and the cores, by place
@@ -124,9 +130,6 @@ module _ {t : Judging} {M : Set} {p : ℕ} where
 count_cons : (U : ℕ → Bool) (l : List ℕ) (k e : ℕ) → k < e → e ≤ length l → count_by U (slice k e l) ≡ ind (U (get_or l k 0)) + count_by U (slice (k + 1) e l)
 count_cons U l k e h le = rw (add-one, slice-cons k e l 0)
 
-count_none : (U : ℕ → Bool) (l : List ℕ) (k e : ℕ) → e ≤ k → count_by U (slice k e l) ≡ 0
-count_none U l k e h = rw (drop_of_length-le (take e l) {i = k} (rw length-take (omega arith)))
-
 -- n are violated of the members of core j up to place k
 pub record Counting (t : Judging) (M : Set) (j end : ℕ) (before counts : List ℕ) (k n : ℕ) : Type 0 where
   pub known : Known t M counts
@@ -151,48 +154,10 @@ count_start {t} {M} f {counts} o {j} l h {e} ee {k} ek = record {
   rest = zero-add _ ∙ ap₂ (λ (a b : ℕ). count_by (violated_at t M) (slice a b t.members)) ek ee ∙ sym (ap (count_by (violated_at t M)) (core_slice t f j l h));
 }
 
--- the count that is kept
-pub count_old : {t : Judging} {M : Set} {counts : List ℕ} → Known t M counts → (j : ℕ) {o : ℕ} → o ≡ get_or counts j 0 → (o ≡ 0 → ⊥) → CountAnswers t M counts (o - 1) j counts
-count_old {t} {M} {counts} k j {o} e z =
-    let q : get_or counts j 0 ≡ count_in t M j + 1 = k.kept j (λ w. z (e ∙ w)) in
-    record { is = omega arith; known = k; stays = λ i w. w; counted = λ w. z (e ∙ w) }
-
--- what is kept stays kept, and one more is
-counted_now : (counts : List ℕ) (j n : ℕ) → j < length counts → IsCounted (set counts j (n + 1)) j
-counted_now counts j n h z = absurd (omega (arith, get_or-set_same counts j (n + 1) 0 h))
-
-counted_set : (counts : List ℕ) (j n x : ℕ) → j < length counts → IsCounted counts x → IsCounted (set counts j (n + 1)) x
-counted_set counts j n x h w = go (eqb x j) refl
-  where
-    go : (b : Bool) → eqb x j ≡ b → IsCounted (set counts j (n + 1)) x
-    go true e = subst (IsCounted (set counts j (n + 1))) (sym (eqb-true x j e)) (counted_now counts j n h)
-    go false e = λ z. w (sym (get_or-set_other counts j x (n + 1) 0 (eqb-false x j e)) ∙ z)
-
--- a kept count
-kept_after : (t : Judging) (M : Set) (counts : List ℕ) (j n : ℕ) → Known t M counts → j < length counts → n ≡ count_in t M j → Known t M (set counts j (n + 1))
-kept_after t M counts j n o h q = record { long = rw length-set o.long; kept = λ i z. go i z (eqb i j) refl }
-  where
-    go : (i : ℕ) → (get_or (set counts j (n + 1)) i 0 ≡ 0 → ⊥) → (b : Bool) → eqb i j ≡ b → get_or (set counts j (n + 1)) i 0 ≡ count_in t M i + 1
-    go i z true r = rw (eqb-true i j r, get_or-set_same counts j (n + 1) 0 h, q)
-    go i z false r =
-        let x : get_or (set counts j (n + 1)) i 0 ≡ get_or counts i 0 = get_or-set_other counts j i (n + 1) 0 (eqb-false i j r) in
-        x ∙ o.kept i (λ w. z (x ∙ w))
-
 module _ {t : Judging} {M : Set} {j e : ℕ} {before counts : List ℕ} {k n : ℕ} where
   -- the place of a member
   pub member_place : Counting t M j e before counts k n → FormedJudging t → k < e → k < length t.members
   member_place c f h = omega (arith, f.end_in j, c.ends)
-
-  pub member_soft : Counting t M j e before counts k n → FormedJudging t → k < e → {m : ℕ} → m ≡ get_or t.members k 0 → m < length t.literals
-  member_soft c f h em = rw em (f.member_in k (member_place c f h))
-
-  -- its core number is less
-  pub member_falls : Counting t M j e before counts k n → FormedJudging t → 1 ≤ j → k < e → {m : ℕ} → m ≡ get_or t.members k 0 → get_or t.cores m 0 < j
-  member_falls c f l h {m} em =
-      let i : j - 1 + 1 ≡ j = omega arith in
-      let q : k < get_or t.ends (j - 1 + 1) 0 = rw i (omega (arith, c.ends)) in
-      let x : get_or t.cores (get_or t.members k 0) 0 ≤ j - 1 = f.falls (j - 1) k c.from q in
-      rw em (omega arith)
 
   pub count_yes : Counting t M j e before counts k n → FormedJudging t → k < e → {m : ℕ} → m ≡ get_or t.members k 0 → {b : Bool} {after : List ℕ} → Answers t M counts b (violated_at t M m) after → length after ≡ length counts → b ≡ true
       → {n₁ : ℕ} → n₁ ≡ n + 1 → Counting t M j e before after (k + 1) n₁
@@ -224,46 +189,13 @@ module _ {t : Judging} {M : Set} {j e : ℕ} {before counts : List ℕ} {k n : �
         omega (arith, c.rest, ap ind v, count_cons (violated_at t M) t.members k e h (omega (arith, f.end_in j, c.ends)));
   }
 
-  -- n is within the table
-  pub count_few : Counting t M j e before counts k n → FormedJudging t → n ≤ 4096
-  count_few c f = omega (arith, c.few, c.inside, f.few)
-
-  pub count_end : Counting t M j e before counts k n → j < length t.ends → e ≤ k → {after : List ℕ} → after ≡ set counts j (n + 1) → CountAnswers t M before n j after
-  count_end c h l {after} ea =
-      let q : n ≡ count_in t M j = omega (arith, c.rest, count_none (violated_at t M) t.members k e l) in
-      let i : j < length counts = omega (arith, c.known.long) in
-      record {
-        is = q;
-        known = rw ea (kept_after t M counts j n c.known i q);
-        stays = λ x w. rw ea (counted_set counts j n x i (c.stays x w));
-        counted = rw ea (counted_now counts j n i);
-      }
-
--- the same with the columns in sight, as the code's needs have them
-module _ {ls : List ℤ} {js is es ms : List ℕ} where
-  pub small_at : FormedJudging (judging ls js is es ms) → (p : ℕ) → nat_abs (get_or ls p (pos 0)) ≤ 1024
-  small_at f p = f.small p
-
-  pub core_within : FormedJudging (judging ls js is es ms) → (p : ℕ) {j : ℕ} → j ≡ get_or js p 0 → j < length es
-  core_within f p e = rw e (f.core_in p)
-
-  module _ {M : Set} {j e : ℕ} {before counts : List ℕ} {k n : ℕ} where
-    pub place_in : Counting (judging ls js is es ms) M j e before counts k n → FormedJudging (judging ls js is es ms) → k < e → k < length ms
-    place_in c f h = member_place c f h
-
-    pub soft_in : Counting (judging ls js is es ms) M j e before counts k n → FormedJudging (judging ls js is es ms) → k < e → {m : ℕ} → m ≡ get_or ms k 0 → m < length ls
-    soft_in c f h em = member_soft c f h em
-
-    pub core_falls : Counting (judging ls js is es ms) M j e before counts k n → FormedJudging (judging ls js is es ms) → 1 ≤ j → k < e → {m : ℕ} → m ≡ get_or ms k 0 → get_or js m 0 < j
-    core_falls c f l h em = member_falls c f l h em
-
 -- ---- the first violated place of a list
 
-first_none : (U : ℕ → Bool) → first_violated U [] ≡ Met
+first_none : (U : ℕ → Bool) → first_violated U [] ≡ None
 unfolding first_violated
 first_none U = refl
 
-first_here : (U : ℕ → Bool) (p : ℕ) (ps : List ℕ) → U p ≡ true → first_violated U (p ∷ ps) ≡ Violated p
+first_here : (U : ℕ → Bool) (p : ℕ) (ps : List ℕ) → U p ≡ true → first_violated U (p ∷ ps) ≡ Some p
 unfolding first_violated
 first_here U p ps e = rw e
 
@@ -298,55 +230,50 @@ module _ {t : Judging} {M : Set} {ps before counts : List ℕ} {i : ℕ} where
   }
 
   pub pass_here : Passing t M ps before counts i → i < length ps → {p : ℕ} → p ≡ get_or ps i 0 → {b : Bool} {after : List ℕ} → Answers t M counts b (violated_at t M p) after → b ≡ true
-      → Answers t M before (Violated p) (first_violated (violated_at t M) ps) after
+      → Answers t M before (Some p) (first_violated (violated_at t M) ps) after
   pass_here c h {p} ep {b} {after} a q = record {
     is =
-        ap Violated ep
+        ap Some ep
         ∙ sym (first_here (violated_at t M) (get_or ps i 0) (drop (i + 1) ps) (sym (ap (violated_at t M) ep) ∙ sym a.is ∙ q))
         ∙ sym (ap (first_violated (violated_at t M)) (cut_at ps i h)) ∙ c.rest;
     known = a.known;
     stays = λ x w. a.stays x (c.stays x w);
   }
 
-  pub pass_end : Passing t M ps before counts i → length ps ≤ i → Answers t M before Met (first_violated (violated_at t M) ps) counts
+  pub pass_end : Passing t M ps before counts i → length ps ≤ i → Answers t M before None (first_violated (violated_at t M) ps) counts
   pass_end c h = record {
     is = sym (first_none (violated_at t M)) ∙ sym (ap (first_violated (violated_at t M)) (drop_of_length-le ps {i = i} h)) ∙ c.rest;
     known = c.known;
     stays = c.stays;
   }
 
--- a place of the list is one of the table
-pub place_of : {ls : List ℤ} {js is es ms : List ℕ} {M : Set} {ps before counts : List ℕ} {i : ℕ} → Passing (judging ls js is es ms) M ps before counts i → All (λ m. m < length ls) ps
-    → i < length ps → {p : ℕ} → p ≡ get_or ps i 0 → p < length ls
-place_of {ls} {ps = ps} {i = i} c a h e = rw e (all_at (λ m. m < length ls) ps a i h)
-
 -- ---- two lists, one after the other
 
-first_append : (U : ℕ → Bool) (ps qs : List ℕ) → first_violated U ps ≡ Met → first_violated U (ps ++ qs) ≡ first_violated U qs
+first_append : (U : ℕ → Bool) (ps qs : List ℕ) → first_violated U ps ≡ None → first_violated U (ps ++ qs) ≡ first_violated U qs
 unfolding first_violated
 first_append U [] qs e = refl
 first_append U (p ∷ ps) qs e = go (U p) e (first_append U ps qs)
   where
-    go : (b : Bool) → pick b (Violated p) (first_violated U ps) ≡ Met → (first_violated U ps ≡ Met → first_violated U (ps ++ qs) ≡ first_violated U qs)
-        → pick b (Violated p) (first_violated U (ps ++ qs)) ≡ first_violated U qs
+    go : (b : Bool) → pick b (Some p) (first_violated U ps) ≡ None → (first_violated U ps ≡ None → first_violated U (ps ++ qs) ≡ first_violated U qs)
+        → pick b (Some p) (first_violated U (ps ++ qs)) ≡ first_violated U qs
     go true e f = let z : ◌≡◌ {A = ℕ} 0 1 = cc in absurd (omega arith)
     go false e f = f e
 
-first_found : (U : ℕ → Bool) (ps qs : List ℕ) (p : ℕ) → first_violated U ps ≡ Violated p → first_violated U (ps ++ qs) ≡ Violated p
+first_found : (U : ℕ → Bool) (ps qs : List ℕ) (p : ℕ) → first_violated U ps ≡ Some p → first_violated U (ps ++ qs) ≡ Some p
 unfolding first_violated
 first_found U [] qs p e = let z : ◌≡◌ {A = ℕ} 0 1 = cc in absurd (omega arith)
 first_found U (x ∷ ps) qs p e = go (U x) e (first_found U ps qs p)
   where
-    go : (b : Bool) → pick b (Violated x) (first_violated U ps) ≡ Violated p → (first_violated U ps ≡ Violated p → first_violated U (ps ++ qs) ≡ Violated p)
-        → pick b (Violated x) (first_violated U (ps ++ qs)) ≡ Violated p
+    go : (b : Bool) → pick b (Some x) (first_violated U ps) ≡ Some p → (first_violated U ps ≡ Some p → first_violated U (ps ++ qs) ≡ Some p)
+        → pick b (Some x) (first_violated U (ps ++ qs)) ≡ Some p
     go true e f = e
     go false e f = f e
 
-module _ {t : Judging} {M : Set} (ps qs : List ℕ) {r : Judged} {before counts : List ℕ} where
-  pub found_first : Answers t M before r (first_violated (violated_at t M) ps) counts → (p : ℕ) → r ≡ Violated p → Violated p ≡ first_violated (violated_at t M) (ps ++ qs)
+module _ {t : Judging} {M : Set} (ps qs : List ℕ) {r : Option ℕ} {before counts : List ℕ} where
+  pub found_first : Answers t M before r (first_violated (violated_at t M) ps) counts → (p : ℕ) → r ≡ Some p → Some p ≡ first_violated (violated_at t M) (ps ++ qs)
   found_first a p e = sym (first_found (violated_at t M) ps qs p (sym a.is ∙ e))
 
-  pub found_second : Answers t M before r (first_violated (violated_at t M) ps) counts → r ≡ Met → {r₂ : Judged} {counts₂ : List ℕ} → Answers t M counts r₂ (first_violated (violated_at t M) qs) counts₂
+  pub found_second : Answers t M before r (first_violated (violated_at t M) ps) counts → r ≡ None → {r₂ : Option ℕ} {counts₂ : List ℕ} → Answers t M counts r₂ (first_violated (violated_at t M) qs) counts₂
       → r₂ ≡ first_violated (violated_at t M) (ps ++ qs)
   found_second a e b = b.is ∙ sym (first_append (violated_at t M) ps qs (sym a.is ∙ e))
 
@@ -360,3 +287,33 @@ none_kept n j = go (below_or j n)
 
 pub known_none : {t : Judging} {n : ℕ} → length t.ends ≤ n → (M : Set) → Known t M (replicate n 0)
 known_none {t} {n} h M = record { long = rw length-replicate h; kept = λ j z. absurd (z (none_kept n j)) }
+
+-- ---- the same of records that are lent
+
+module _ (ss : List Soft) (es ms : List ℕ) (f : FormedJudging (judging_of ss es ms)) (p : ℕ) (h : p < length ss) {r : Soft} (er : r ≡ get_or ss p no_soft) where
+  literal_is : r.literal ≡ get_or (literals_of ss) p (pos 0)
+  literal_is = ap (λ (x : Soft). x.literal) er ∙ sym (get_or-map (λ (x : Soft). x.literal) ss p no_soft)
+
+  core_is : r.core ≡ get_or (cores_of ss) p 0
+  core_is = ap (λ (x : Soft). x.core) er ∙ sym (get_or-map (λ (x : Soft). x.core) ss p no_soft)
+
+  index_is : r.index ≡ get_or (indices_of ss) p 0
+  index_is = ap (λ (x : Soft). x.index) er ∙ sym (get_or-map (λ (x : Soft). x.index) ss p no_soft)
+
+  inside : p < length (literals_of ss)
+  inside = rw length-map h
+
+  -- a literal that goes to a call stands as `to_z w32 (of_z w32 l)`, its bits read back
+  pub literal_back : to_z w32 (of_z w32 r.literal) ≡ r.literal
+  literal_back = to_z-of_z (small_fits r.literal (subst (λ (l : ℤ). nat_abs l ≤ 1024) (sym literal_is) (f.small p)))
+
+  pub literal_small : nat_abs (to_z w32 (of_z w32 r.literal)) ≤ 1024
+  literal_small = subst (λ (l : ℤ). nat_abs l ≤ 1024) (sym (literal_back ∙ literal_is)) (f.small p)
+
+  pub judge_entry_of : {M : Set} {counts : List ℕ} → Known (judging_of ss es ms) M counts → {j : ℕ} → j ≡ r.core → j ≡ 0 → {b : Bool} → b ≡ holds M (to_z w32 (of_z w32 r.literal))
+      → Answers (judging_of ss es ms) M counts b (violated_at (judging_of ss es ms) M p) counts
+  judge_entry_of {M} k ej z e = judge_entry f k inside (ej ∙ core_is) z (e ∙ ap (holds M) (literal_back ∙ literal_is))
+
+  pub judge_derived_of : {M : Set} {j : ℕ} → j ≡ r.core → (j ≡ 0 → ⊥) → {n : ℕ} {before after : List ℕ} → CountAnswers (judging_of ss es ms) M before n j after
+      → {i : ℕ} → i ≡ r.index → Answers (judging_of ss es ms) M before (ltb i n) (violated_at (judging_of ss es ms) M p) after
+  judge_derived_of ej z a ei = judge_derived f inside (ej ∙ core_is) z a (ei ∙ index_is)

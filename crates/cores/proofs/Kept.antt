@@ -9,6 +9,7 @@ use lib.Dec.{ltb}
 use lib.IntN.{ℤ, pos, nat_abs, neg_ℤ}
 use lib.ListN.{length, get_or, take, replicate, length-map, length-replicate, get_or-replicate}
 use lib.Seq.{sets}
+use Rattle.std.specs.Prelude.{Result, Some, None}
 use Rattle.asp.specs.declared.entries.Entry.{Entry}
 use Rattle.asp.specs.Sets.{pick}
 use Rattle.asp.specs.Literal.{same_ℤ}
@@ -16,7 +17,7 @@ use Rattle.asp.specs.Program.{All, Distinct}
 use Rattle.asp.specs.Penalty.{Penalty, penalty, penalties, bulk}
 use Rattle.asp.specs.Cost.{total, level}
 use Rattle.cores.specs.declared.level.LevelTables.{LevelTables}
-use Rattle.cores.specs.declared.judge.Judged.TheVariants.{Met, Violated}
+use Rattle.cores.specs.declared.recording.Full.{Full}
 use Rattle.cores.specs.Sums.{Holds}
 use Rattle.cores.specs.Soft.{InOrder}
 use Rattle.cores.specs.Level.{Level, weighty, opened, greatest, under, assumed_from, recorded, fewer, core_fits, FormedPenalties}
@@ -91,7 +92,7 @@ module _ (es : List Penalty) (f : FormedPenalties es) where
 -- ---- a core is recorded
 
 module _ (t : LevelTables) (ok : SoundTables t) (s : ℕ) (ms : List ℕ) where
-  -- what is asked of a core that `record_core` takes
+  -- what is asked of a core that `try_record` takes
   pub core_counted : 1 ≤ length ms → length ms ≤ 4096 → Counted t (length ms)
   core_counted = counted t ok.formed (length ms)
 
@@ -121,26 +122,26 @@ module _ (P : Problem) (t : LevelTables) (ok : SoundTables t) (s : ℕ) (ms : Li
 
 -- ---- what a judged list says
 
-met_list : (U : ℕ → Bool) (ps : List ℕ) → first_violated U ps ≡ Met → All (λ p. U p ≡ false) ps
+met_list : (U : ℕ → Bool) (ps : List ℕ) → first_violated U ps ≡ None → All (λ p. U p ≡ false) ps
 unfolding first_violated
 met_list U [] e = tt
 met_list U (p ∷ ps) e = go (U p) refl e (met_list U ps)
   where
-    go : (b : Bool) → U p ≡ b → pick b (Violated p) (first_violated U ps) ≡ Met → (first_violated U ps ≡ Met → All (λ p. U p ≡ false) ps) → All (λ p. U p ≡ false) (p ∷ ps)
+    go : (b : Bool) → U p ≡ b → pick b (Some p) (first_violated U ps) ≡ None → (first_violated U ps ≡ None → All (λ p. U p ≡ false) ps) → All (λ p. U p ≡ false) (p ∷ ps)
     go true q e f = let z : ◌≡◌ {A = ℕ} 0 1 = cc in absurd (omega arith)
     go false q e f = (q, f e)
 
 -- none is violated
-pub all_met : (U : ℕ → Bool) (ps : List ℕ) → first_violated U ps ≡ Met → All (λ p. U p ≡ false) ps
+pub all_met : (U : ℕ → Bool) (ps : List ℕ) → first_violated U ps ≡ None → All (λ p. U p ≡ false) ps
 all_met U ps e = met_list U ps e
 
 -- the one found is violated, and is one of the list: what holds of all holds of it
-pub one_violated : (U : ℕ → Bool) (ps : List ℕ) (p : ℕ) → first_violated U ps ≡ Violated p → (U p ≡ true) × ((P : ℕ → Type 0) → All P ps → P p)
+pub one_violated : (U : ℕ → Bool) (ps : List ℕ) (p : ℕ) → first_violated U ps ≡ Some p → (U p ≡ true) × ((P : ℕ → Type 0) → All P ps → P p)
 unfolding first_violated
 one_violated U [] p e = let z : ◌≡◌ {A = ℕ} 0 1 = cc in absurd (omega arith)
 one_violated U (x ∷ ps) p e = go (U x) refl e (one_violated U ps p)
   where
-    go : (b : Bool) → U x ≡ b → pick b (Violated x) (first_violated U ps) ≡ Violated p → (first_violated U ps ≡ Violated p → (U p ≡ true) × ((P : ℕ → Type 0) → All P ps → P p))
+    go : (b : Bool) → U x ≡ b → pick b (Some x) (first_violated U ps) ≡ Some p → (first_violated U ps ≡ Some p → (U p ≡ true) × ((P : ℕ → Type 0) → All P ps → P p))
         → (U p ≡ true) × ((P : ℕ → Type 0) → All P (x ∷ ps) → P p)
     go true q e f = let w : x ≡ p = cc in (sym (ap U w) ∙ q, λ P a. subst P w a.0)
     go false q e f = ((f e).0, λ P a. (f e).1 P a.1)
@@ -177,12 +178,12 @@ unfolding weighty
 empty_sound = opened_sound [] (record { few = zero-le; atoms = tt; weights = tt })
 
 -- RECORDED OR FULL, THE TABLES STAY SOUND
-pub tried_sound : (t : LevelTables) → SoundTables t → (s : ℕ) (ms : List ℕ) → Counted t (length ms) → All (λ m. m < t.count) ms → {b : Bool} {u : LevelTables} → tried b u ≡ tried_tables t s ms → SoundTables u
-tried_sound t ok s ms c inside {b} {u} e = go (core_fits t.count (held_in t) (length ms)) refl
+pub tried_sound : (t : LevelTables) → SoundTables t → (s : ℕ) (ms : List ℕ) → Counted t (length ms) → All (λ m. m < t.count) ms → {r : Result (Unit {0}) Full} {u : LevelTables} → tried r u ≡ tried_tables t s ms → SoundTables u
+tried_sound t ok s ms c inside {r} {u} e = go (core_fits t.count (held_in t) (length ms)) refl
   where
     go : (x : Bool) → core_fits t.count (held_in t) (length ms) ≡ x → SoundTables u
     go true q =
         let w : u ≡ recorded_tables t s ms = ap (λ (z : Tried). z.tables) (rw q at e) in
-        let r : Room t (length ms) = try_room t s ms c refl refl q in
-        subst SoundTables (sym w) (recorded_sound t ok s ms r inside)
+        let room : Room t (length ms) = try_room t s ms c refl refl q in
+        subst SoundTables (sym w) (recorded_sound t ok s ms room inside)
     go false q = let w : u ≡ t = ap (λ (z : Tried). z.tables) (rw q at e) in subst SoundTables (sym w) ok

@@ -11,5 +11,5 @@ pub mod Spans
 pub mod Columns
 pub mod Queries
 pub mod Links
-pub mod Unpacked
+pub mod Lent
 pub mod Kept

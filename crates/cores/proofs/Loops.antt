@@ -1,42 +1,43 @@
 -- What holds in the loops that fill and change the tables: one record for each loop, and its laws. Assumes nothing.
 use mathlib.Core.Path.{◌≡◌, refl, sym, ap, ap₂, ◌∙◌}
 use mathlib.Core.Bool.{Bool, true, false, ◌&&◌}
-use mathlib.Core.List.{List, [], ◌∷◌}
+use mathlib.Core.List.{List, [], ◌∷◌, ◌++◌}
 use Prim.Native.Nat.{ℕ, suc, ◌+◌, ◌-◌, ◌≤◌, ◌<◌}
-use mir.Syntax.{w32}
-use mir.Val.{SFits, to_z, of_z}
-use mir.Facts.{to_z-of_z}
 use native.Mathlib.Numerals.{add-one}
-use native.Mathlib.Nat.{add-zero, zero-add}
+use native.Mathlib.Nat.{add-zero}
 use native.Mathlib.Omega.{arith}
 use lib.Dec.{ltb, leb, leb→le}
 use mir.Facts.{and_yes}
 use lib.IntN.{ℤ, pos, nat_abs}
-use lib.ListN.{length, get_or, set, drop, length-set, drop_of_length-le}
+use lib.ListN.{length, get_or, set, take, drop, length-set, drop_of_length-le}
 use lib.Seq.{drop-cons, sets}
-use borrow.Author.Tests.{le-leb, lt-leb}
+use borrow.Rule.Slice.PartMut.{put_mid}
+use Rattle.std.proofs.Common.{append_assoc, drop-drop}
+use Rattle.std.proofs.lemmas.List.Edits.{sets-eq}
 use Rattle.asp.specs.declared.entries.Entry.{Entry}
 use Rattle.asp.specs.Sets.{pick}
 use Rattle.asp.specs.Literal.{same_ℤ}
-use Rattle.asp.specs.Program.{All}
 use Rattle.asp.specs.Cost.{level}
 use Rattle.asp.specs.Penalty.{Penalty, paid_literal, penalties}
 use Rattle.asp.specs.Tables.{span, entry_at, entries_of}
 use Rattle.cores.specs.declared.soft.Soft.{Soft}
 use Rattle.cores.specs.declared.level.LevelTables.{LevelTables}
 use Rattle.cores.specs.Level.{weighty, core_fits}
-use Rattle.cores.specs.Tables.{no_soft, entry_soft, core_soft, lighter_by, lighten, new_softs, softs_of, empty_tables, opened_tables, counts_at, soft_at, held_in, recorded_tables, Counted, Room, tried, tried_tables}
-use Rattle.cores.proofs.Members.{all_at}
+use Rattle.cores.specs.Tables.{no_soft, entry_soft, core_soft, lighter_by, lighten, new_softs, softs_of, opened_tables, counts_at, soft_at, held_in, Counted, Room}
+
+-- ---- a free place
+
+pub free_is : (r : Soft) → r.literal ≡ pos 0 → r.core ≡ 0 → r.index ≡ 0 → r.weight ≡ 0 → r ≡ no_soft
+free_is r a b c d =
+    ap₂ (λ (l : ℤ) (j : ℕ). record { literal = l; core = j; index = r.index; weight = r.weight }) a b
+    ∙ ap₂ (λ (i w : ℕ). record { literal = pos 0; core = 0; index = i; weight = w }) c d
 
 -- ---- each member loses s
 
 pub record Losing (s : ℕ) (ms : List ℕ) (t₀ t : List Soft) (i : ℕ) : Type 0 where
-  pub long : length t ≡ 4096
+  pub long : length t ≡ length t₀
   pub below : i ≤ length ms
   pub rest : lighten s (drop i ms) t ≡ lighten s ms t₀
-
-pub lose_start : (s : ℕ) (ms : List ℕ) (t : List Soft) → length t ≡ 4096 → Losing s ms t t 0
-lose_start s ms t h = record { long = h; below = omega arith; rest = refl }
 
 lighten_next : (s : ℕ) (t : List Soft) (ms : List ℕ) (i : ℕ) → i < length ms
     → lighten s (drop i ms) t ≡ lighten s (drop (i + 1) ms) (set t (get_or ms i 0) (lighter_by s (get_or t (get_or ms i 0) no_soft)))
@@ -44,10 +45,6 @@ unfolding lighten
 lighten_next s t ms i h = rw (add-one, drop-cons ms i 0)
 
 module _ {s : ℕ} {ms : List ℕ} {t₀ t : List Soft} {i : ℕ} where
-  -- a member's place
-  pub lose_at : Losing s ms t₀ t i → i < length ms → All (λ m. m < 4096) ms → {m : ℕ} → m ≡ get_or ms i 0 → m < 4096
-  lose_at l h a e = rw e (all_at (λ m. m < 4096) ms a i h)
-
   pub lose_next : Losing s ms t₀ t i → i < length ms → {m : ℕ} → m ≡ get_or ms i 0 → {x : Soft} → x ≡ lighter_by s (get_or t m no_soft) → Losing s ms t₀ (set t m x) (i + 1)
   lose_next l h {m} e {x} q = record {
     long = rw length-set l.long;
@@ -62,16 +59,9 @@ module _ {s : ℕ} {ms : List ℕ} {t₀ t : List Soft} {i : ℕ} where
 -- ---- new soft literals of a core
 
 pub record Adding (j n s k : ℕ) (t₀ t : List Soft) (i : ℕ) : Type 0 where
-  pub long : length t ≡ 4096
+  pub long : length t ≡ length t₀
   pub below : i ≤ n
   pub rest : sets t (k + i) (new_softs j (1 + i) (n - i) s) ≡ sets t₀ k (new_softs j 1 n s)
-
-pub add_start : (j n s k : ℕ) (t : List Soft) → length t ≡ 4096 → Adding j n s k t t 0
-add_start j n s k t h =
-    let a : k + 0 ≡ k = omega arith in
-    let b : 1 + 0 ≡ 1 = omega arith in
-    let c : n - 0 ≡ n = omega arith in
-    record { long = h; below = omega arith; rest = rw (a, b, c) }
 
 add_step : (j n s k : ℕ) (t : List Soft) (i m : ℕ) → n - i ≡ suc m
     → sets t (k + i) (new_softs j (1 + i) (n - i) s) ≡ sets (set t (k + i) (core_soft j (i + 1) s)) (k + (i + 1)) (new_softs j (1 + (i + 1)) (n - (i + 1)) s)
@@ -97,35 +87,12 @@ module _ {j n s k : ℕ} {t₀ t : List Soft} {i : ℕ} where
 
 -- ---- a list is put from place k on
 
-pub record Placing (xs : List ℕ) (k : ℕ) (t₀ t : List ℕ) (i : ℕ) : Type 0 where
-  pub long : length t ≡ 4096
-  pub below : i ≤ length xs
-  pub rest : sets t (k + i) (drop i xs) ≡ sets t₀ k xs
+pub put_part : (l : List ℕ) (k : ℕ) (xs : List ℕ) {ys : List ℕ} → ys ≡ xs → k + length xs ≤ length l → put_mid k (k + length xs - k) l ys ≡ sets l k xs
+put_part l k xs e h =
+    let n : k + length xs - k ≡ length xs = omega arith in
+    rw (e, n) (ap (λ (r : List ℕ). take k l ++ (xs ++ r)) (drop-drop (length xs) k l) ∙ sym (append_assoc (take k l) xs (drop (k + length xs) l)) ∙ sym (sets-eq xs l k h))
 
-pub place_start : (xs : List ℕ) (k : ℕ) (t : List ℕ) → length t ≡ 4096 → Placing xs k t t 0
-place_start xs k t h = record { long = h; below = omega arith; rest = rw add-zero }
-
-place_one : (xs : List ℕ) (k : ℕ) (t : List ℕ) (i : ℕ) → i < length xs → sets t (k + i) (drop i xs) ≡ sets (set t (k + i) (get_or xs i 0)) (k + (i + 1)) (drop (i + 1) xs)
-place_one xs k t i h =
-    let a : suc i ≡ i + 1 = omega arith in
-    let b : suc (k + i) ≡ k + (i + 1) = omega arith in
-    ap (sets t (k + i)) (drop-cons xs i 0 h) ∙ ap₂ (λ (x y : ℕ). sets (set t (k + i) (get_or xs i 0)) x (drop y xs)) b a
-
-module _ {xs : List ℕ} {k : ℕ} {t₀ t : List ℕ} {i : ℕ} where
-  pub place_next : Placing xs k t₀ t i → i < length xs → Placing xs k t₀ (set t (k + i) (get_or xs i 0)) (i + 1)
-  place_next l h = record { long = rw length-set l.long; below = omega arith; rest = sym (place_one xs k t i h) ∙ l.rest }
-
-  pub place_end : Placing xs k t₀ t i → length xs ≤ i → t ≡ sets t₀ k xs
-  place_end l h = rw (drop_of_length-le xs {i = i} h) at l.rest
-
--- ---- opening a level. A priority that goes from one call to the next stands as `to_z w32 (of_z w32 q)`, its bits read back.
-
-module _ (ps ws : List ℤ) (i : ℕ) (q : ℤ) where
-  pub both : SFits w32 q → {b : Bool} → b ≡ same_ℤ (to_z w32 (of_z w32 q)) (get_or ps i (pos 0)) → b ≡ true → {w : ℕ} → w ≡ nat_abs (get_or ws i (pos 0)) → ltb 0 w ≡ counts_at ps ws i q
-  both s e t f = rw (sym (rw (to_z-of_z s) at e) ∙ t, f)
-
-  pub neither : SFits w32 q → {b : Bool} → b ≡ same_ℤ (to_z w32 (of_z w32 q)) (get_or ps i (pos 0)) → b ≡ false → b ≡ counts_at ps ws i q
-  neither s e t = rw (sym (rw (to_z-of_z s) at e) ∙ t) t
+-- ---- opening a level
 
 -- the soft literals of a level, entry by entry
 softs_cons : (q : ℤ) (e : Entry) (es : List Entry)
@@ -153,17 +120,10 @@ opened_from t k es = record {
 }
 
 module _ (ps ls ws : List ℤ) (n : ℕ) (q : ℤ) where
-  pub record Opening (t : LevelTables) (k i : ℕ) : Type 0 where
+  pub record Opening (t : LevelTables) (i : ℕ) : Type 0 where
     pub below : i ≤ n
-    pub few : k ≤ i
-    pub rest : opened_from t k (penalties (level q (span (entry_at ps ls ws) i (n - i)))) ≡ opened_tables (penalties (level q (entries_of ps ls ws n)))
-
-  pub open_start : {t : LevelTables} → t ≡ empty_tables → Opening t 0 0
-  open_start e = rw e (record {
-    below = omega arith;
-    few = omega arith;
-    rest = let a : n - 0 ≡ n = omega arith in rw (a, zero-add);
-  })
+    pub few : t.count ≤ i
+    pub rest : opened_from t t.count (penalties (level q (span (entry_at ps ls ws) i (n - i)))) ≡ opened_tables (penalties (level q (entries_of ps ls ws n)))
 
   softs_next : (i m : ℕ) → n - i ≡ suc m
       → softs_of (penalties (level q (span (entry_at ps ls ws) i (n - i))))
@@ -175,7 +135,7 @@ module _ (ps ls ws : List ℤ) (n : ℕ) (q : ℤ) where
 
 -- a soft literal is put at k
 abbrev put_soft : LevelTables → ℕ → Soft → LevelTables
-put_soft t k x = record { softs = set t.softs k x; members = t.members; ends = t.ends; count = t.count; cores = t.cores; lower = t.lower }
+put_soft t k x = record { softs = set t.softs k x; members = t.members; ends = t.ends; count = k + 1; cores = t.cores; lower = t.lower }
 
 from_put : (t : LevelTables) (k : ℕ) (x : Soft) (es fs : List Penalty) → softs_of es ≡ x ∷ softs_of fs → opened_from t k es ≡ opened_from (put_soft t k x) (k + 1) fs
 from_put t k x es fs e =
@@ -191,55 +151,42 @@ from_none : (t : LevelTables) (k : ℕ) → opened_from t k [] ≡ record { soft
 unfolding weighty
 from_none t k = ap (λ (a : ℕ). record { softs = t.softs; members = t.members; ends = t.ends; count = a; cores = t.cores; lower = t.lower }) (add-zero k)
 
-module _ {ps ls ws : List ℤ} {n : ℕ} {q : ℤ} {t : LevelTables} {k i : ℕ} where
-  pub open_put : Opening ps ls ws n q t k i → i < n → {b : Bool} → b ≡ counts_at ps ws i q → b ≡ true
-      → {x : Soft} → x ≡ soft_at ls ws i → {t₁ : LevelTables} → t₁ ≡ put_soft t k x → {k₁ : ℕ} → k₁ ≡ k + 1 → Opening ps ls ws n q t₁ k₁ (i + 1)
-  open_put o h {b} e y {x} f et ek = rw (et, ek) (record {
+module _ {ps ls ws : List ℤ} {n : ℕ} {q : ℤ} {t : LevelTables} {i : ℕ} where
+  pub open_put : Opening ps ls ws n q t i → i < n → {b : Bool} → b ≡ counts_at ps ws i q → b ≡ true
+      → {x : Soft} → x ≡ soft_at ls ws i → {t₁ : LevelTables} → t₁ ≡ put_soft t t.count x → Opening ps ls ws n q t₁ (i + 1)
+  open_put o h {b} e y {x} f et = rw et (record {
     below = omega arith;
     few = omega (arith, o.few);
     rest =
         let c : counts_at ps ws i q ≡ true = sym e ∙ y in
         let g = rw c at (softs_next ps ls ws n q i (n - (i + 1)) (omega arith)) in
-        sym (from_put t k x _ _ (rw f g)) ∙ o.rest;
+        sym (from_put t t.count x _ _ (rw f g)) ∙ o.rest;
   })
 
   -- the same, from what the call that puts it says of the table
-  pub open_put_at : Opening ps ls ws n q t k i → i < n → {b : Bool} → b ≡ counts_at ps ws i q → b ≡ true
-      → {x : Soft} → x ≡ soft_at ls ws i → {xs : List Soft} → xs ≡ set t.softs k x
-      → {t₁ : LevelTables} → t₁ ≡ record { softs = xs; members = t.members; ends = t.ends; count = t.count; cores = t.cores; lower = t.lower } → {k₁ : ℕ} → k₁ ≡ k + 1 → Opening ps ls ws n q t₁ k₁ (i + 1)
-  open_put_at o h e y f ex et ek = open_put o h e y f (rw ex at et) ek
+  pub open_put_at : Opening ps ls ws n q t i → i < n → {b : Bool} → b ≡ counts_at ps ws i q → b ≡ true
+      → {x : Soft} → x ≡ soft_at ls ws i → {xs : List Soft} → xs ≡ set t.softs t.count x
+      → {t₁ : LevelTables} → t₁ ≡ record { softs = xs; members = t.members; ends = t.ends; count = t.count + 1; cores = t.cores; lower = t.lower } → Opening ps ls ws n q t₁ (i + 1)
+  open_put_at o h e y f ex et = open_put o h e y f (rw ex at et)
 
-  pub open_skip : Opening ps ls ws n q t k i → i < n → {b : Bool} → b ≡ counts_at ps ws i q → b ≡ false
-      → {t₁ : LevelTables} → t₁ ≡ t → {k₁ : ℕ} → k₁ ≡ k → Opening ps ls ws n q t₁ k₁ (i + 1)
-  open_skip o h {b} e y et ek = rw (et, ek) (record {
+  pub open_skip : Opening ps ls ws n q t i → i < n → {b : Bool} → b ≡ counts_at ps ws i q → b ≡ false
+      → {t₁ : LevelTables} → t₁ ≡ t → Opening ps ls ws n q t₁ (i + 1)
+  open_skip o h {b} e y et = rw et (record {
     below = omega arith;
     few = omega (arith, o.few);
     rest =
         let c : counts_at ps ws i q ≡ false = sym e ∙ y in
         let g = rw c at (softs_next ps ls ws n q i (n - (i + 1)) (omega arith)) in
-        sym (from_skip t k _ _ g) ∙ o.rest;
+        sym (from_skip t t.count _ _ g) ∙ o.rest;
   })
 
-  pub open_stop : Opening ps ls ws n q t k i → n ≤ i
-      → record { softs = t.softs; members = t.members; ends = t.ends; count = k; cores = t.cores; lower = t.lower } ≡ opened_tables (penalties (level q (entries_of ps ls ws n)))
+  pub open_stop : Opening ps ls ws n q t i → n ≤ i → t ≡ opened_tables (penalties (level q (entries_of ps ls ws n)))
   unfolding span level
-  open_stop o h = let e : n - i ≡ 0 = omega arith in sym (from_none t k) ∙ (rw e at o.rest)
+  open_stop o h = let e : n - i ≡ 0 = omega arith in sym (from_none t t.count) ∙ (rw e at o.rest)
 
--- ---- recording a core: the pieces put together
+-- ---- recording a core: whether there is room
 
 module _ (t : LevelTables) (s : ℕ) (ms : List ℕ) where
-  pub recorded_is : {h : ℕ} → h ≡ get_or t.ends t.cores 0 → {a : List Soft} → a ≡ lighten s ms t.softs
-      → {b : List Soft} → b ≡ sets a t.count (new_softs (t.cores + 1) 1 (length ms - 1) s) → {d : List ℕ} → d ≡ sets t.members h ms → {e : ℕ} → e ≡ h + length ms
-      → record {
-        softs = b;
-        members = d;
-        ends = set t.ends (t.cores + 1) e;
-        count = t.count + (length ms - 1);
-        cores = t.cores + 1;
-        lower = t.lower + s;
-      } ≡ recorded_tables t s ms
-  recorded_is eh ea eb ed ee = rw (eb, ea, ed, ee, eh)
-
   pub try_room : Counted t (length ms) → {h : ℕ} → h ≡ get_or t.ends t.cores 0 → {b : Bool} → b ≡ core_fits t.count h (length ms) → b ≡ true → Room t (length ms)
   try_room c {h} eh {b} eb q =
       let f : core_fits t.count (held_in t) (length ms) ≡ true = rw eh at (sym eb ∙ q) in
@@ -249,17 +196,3 @@ module _ (t : LevelTables) (s : ℕ) (ms : List ℕ) where
         softs = leb→le (t.count + (length ms - 1)) 4096 g.0;
         members = leb→le (held_in t + length ms) 4096 g.1;
       }
-
-  pub try_yes : {h : ℕ} → h ≡ get_or t.ends t.cores 0 → {b : Bool} → b ≡ core_fits t.count h (length ms) → b ≡ true → {u : LevelTables} → u ≡ recorded_tables t s ms → tried false u ≡ tried_tables t s ms
-  try_yes eh eb q eu = rw (rw eh at (sym eb ∙ q), eu)
-
-  pub try_no : {h : ℕ} → h ≡ get_or t.ends t.cores 0 → {b : Bool} → b ≡ core_fits t.count h (length ms) → b ≡ false → tried true t ≡ tried_tables t s ms
-  try_no eh eb q = rw (rw eh at (sym eb ∙ q))
-
--- ---- whether there is room
-
-pub room_yes : (k h n : ℕ) → k + (n - 1) ≤ 4096 → leb (h + n) 4096 ≡ core_fits k h n
-room_yes k h n l = rw (le-leb (k + (n - 1)) 4096 l)
-
-pub room_no : (k h n : ℕ) → 4096 < k + (n - 1) → leb (k + (n - 1)) 4096 ≡ core_fits k h n
-room_no k h n l = rw (lt-leb (k + (n - 1)) 4096 l)

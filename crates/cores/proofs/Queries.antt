@@ -2,74 +2,35 @@
 use mathlib.Core.Path.{◌≡◌, refl, sym, ap, ap₂, ◌∙◌}
 use mathlib.Core.Bool.{Bool, true, false}
 use mathlib.Core.List.{List, [], ◌∷◌, map}
-use Prim.Native.Nat.{ℕ, ◌+◌, ◌≤◌, ◌<◌, max, zero-le}
-use native.Mathlib.Nat.{add-zero, zero-add}
+use Prim.Native.Nat.{ℕ, ◌+◌, ◌≤◌, ◌<◌, max}
+use native.Mathlib.Nat.{add-zero}
 use native.Mathlib.Numerals.{add-one}
 use native.Mathlib.Omega.{arith}
 use lib.Dec.{ltb, eqb}
 use lib.IntN.{ℤ, pos, neg_ℤ}
-use lib.ListN.{length, get_or, set, take, drop, length-take, length-map, get_or-map, drop_of_length-le}
-use lib.Seq.{drop-cons, sets, get_or-take}
-use borrow.Author.Tests.{lt-ltb, le-ltb, eq-eqb, ne_eqb}
+use lib.ListN.{length, get_or, set, drop, length-map, drop_of_length-le}
+use lib.Seq.{drop-cons, sets}
+use Rattle.std.proofs.lemmas.List.{get_or-map}
+use borrow.Author.Tests.{lt-ltb, le-ltb}
 use Rattle.asp.specs.Sets.{pick}
-use Rattle.asp.specs.Program.{All}
 use Rattle.asp.specs.Stable.{keep}
 use Rattle.cores.specs.declared.soft.Soft.{Soft}
 use Rattle.cores.specs.Level.{under, assumed_from}
-use Rattle.cores.specs.Tables.{no_soft}
-use Rattle.cores.specs.Columns.{Columns, put_columns, unpacked_from, unpacked_of, rests_of, raised_by, ListedPlaces, listed_places, assumed_of, entries_among, Pairs, pairs, put_pair, Paired, paired, put_entry, entry_columns}
-use Rattle.cores.proofs.Members.{all_at}
+use Rattle.cores.specs.Columns.{rests_of, ListedPlaces, listed_places, assumed_of, entries_among, Pairs, pairs, put_pair, Paired, paired, put_entry, entry_columns}
 use Rattle.cores.proofs.Strata.{assumed_yes, assumed_no}
 
 cut : {A : Type 0} (l : List A) (i : ℕ) (d : A) → i < length l → drop i l ≡ get_or l i d ∷ drop (i + 1) l
 cut l i d h = rw (add-one, drop-cons l i d)
 
--- ---- columns
-
-pub record Unpacking (ss : List Soft) (n : ℕ) (c₀ c : Columns) (i : ℕ) : Type 0 where
-  pub long : length ss ≡ 4096
-  pub below : i ≤ n
-  pub rest : unpacked_from i (drop i (take n ss)) c ≡ unpacked_of ss n c₀
-
-pub unpack_start : (ss : List Soft) (n : ℕ) (c : Columns) → length ss ≡ 4096 → Unpacking ss n c c 0
-unpack_start ss n c h = record { long = h; below = zero-le; rest = refl }
-
-unpack_one : (ss : List Soft) (n : ℕ) (c : Columns) (i : ℕ) → i < n → i < length ss → unpacked_from i (drop i (take n ss)) c ≡ unpacked_from (i + 1) (drop (i + 1) (take n ss)) (put_columns i (get_or ss i no_soft) c)
-unfolding unpacked_from
-unpack_one ss n c i h l = rw (cut (take n ss) i no_soft (rw length-take (omega arith)), get_or-take n ss i no_soft h)
-
-unpack_done : (i : ℕ) (c : Columns) → unpacked_from i [] c ≡ c
-unfolding unpacked_from
-unpack_done i c = refl
-
-module _ {ss : List Soft} {n : ℕ} {c₀ c : Columns} {i : ℕ} where
-  pub unpack_next : Unpacking ss n c₀ c i → i < n → n ≤ 4096 → {c₁ : Columns} → c₁ ≡ put_columns i (get_or ss i no_soft) c → Unpacking ss n c₀ c₁ (i + 1)
-  unpack_next u h l {c₁} e = record {
-    long = u.long;
-    below = omega arith;
-    rest = ap (unpacked_from (i + 1) (drop (i + 1) (take n ss))) e ∙ sym (unpack_one ss n c i h (omega (arith, u.long))) ∙ u.rest;
-  }
-
-  pub unpack_end : Unpacking ss n c₀ c i → n ≤ i → c ≡ unpacked_of ss n c₀
-  unpack_end u h = sym (unpack_done i c) ∙ sym (ap (λ (rs : List Soft). unpacked_from i rs c) (drop_of_length-le (take n ss) {i = i} (rw length-take (omega arith)))) ∙ u.rest
-
 -- ---- the next stratum
 
-pub raised_yes : (s w b : ℕ) → w < s → b < w → w ≡ raised_by s w b
-raised_yes s w b h l = rw (lt-ltb w s h) (omega arith)
-
-pub raised_kept : (s w b : ℕ) → w < s → w ≤ b → b ≡ raised_by s w b
-raised_kept s w b h l = rw (lt-ltb w s h) (omega arith)
-
-pub raised_no : (s w b : ℕ) → s ≤ w → b ≡ raised_by s w b
-raised_no s w b h = rw (le-ltb w s h)
+-- the greater of w and the best so far, if w is below s
+abbrev raised_by : ℕ → ℕ → ℕ → ℕ
+raised_by s w best = pick (ltb w s) (max w best) best
 
 pub record Falling (s : ℕ) (ws : List ℕ) (best i : ℕ) : Type 0 where
   pub below : i ≤ length ws
   pub rest : max best (under s (drop i ws)) ≡ under s ws
-
-pub fall_start : (s : ℕ) (ws : List ℕ) → Falling s ws 0 0
-fall_start s ws = record { below = zero-le; rest = omega arith }
 
 fall_one : (s b w : ℕ) (ws : List ℕ) → max (raised_by s w b) (under s ws) ≡ max b (under s (w ∷ ws))
 unfolding under
@@ -92,19 +53,28 @@ module _ {s : ℕ} {ws : List ℕ} {best i : ℕ} where
   pub fall_end : Falling s ws best i → length ws ≤ i → best ≡ under s ws
   fall_end f h = sym (fall_none s best) ∙ sym (ap (λ (l : List ℕ). max best (under s l)) (drop_of_length-le ws {i = i} h)) ∙ f.rest
 
--- the same over the records of a table
-rests_length : (ss : List Soft) (n : ℕ) → length ss ≡ 4096 → n ≤ 4096 → length (rests_of ss n) ≡ n
-rests_length ss n h l = omega (arith, h, length-map (take n ss) (λ (r : Soft). r.weight), length-take n ss)
+-- the same over records that are lent
+rests_long : (ss : List Soft) → length (rests_of ss) ≡ length ss
+rests_long ss = length-map ss (λ (r : Soft). r.weight)
 
-rests_at : (ss : List Soft) (n i : ℕ) → i < n → (get_or ss i no_soft).weight ≡ get_or (rests_of ss n) i 0
-rests_at ss n i h = ap (λ (r : Soft). r.weight) (sym (get_or-take n ss i no_soft h)) ∙ sym (get_or-map (λ (r : Soft). r.weight) (take n ss) i no_soft)
+rest_at : (ss : List Soft) (i : ℕ) (d : Soft) → i < length ss → (get_or ss i d).weight ≡ get_or (rests_of ss) i 0
+rest_at ss i d h = sym (get_or-map (λ (r : Soft). r.weight) ss i d 0 h)
 
-module _ (s : ℕ) (ss : List Soft) (n : ℕ) {best i : ℕ} where
-  pub below_next : Falling s (rests_of ss n) best i → length ss ≡ 4096 → n ≤ 4096 → i < n → {r : Soft} → r ≡ get_or ss i no_soft → {b : ℕ} → b ≡ raised_by s r.weight best → Falling s (rests_of ss n) b (i + 1)
-  below_next f h l k er eb = fall_next f (omega (arith, rests_length ss n h l)) (ap (λ (r : Soft). r.weight) er ∙ rests_at ss n i k) eb
+raised_yes : (s w best : ℕ) → w < s → max w best ≡ raised_by s w best
+raised_yes s w best h = rw (lt-ltb w s h)
 
-  pub below_end : Falling s (rests_of ss n) best i → length ss ≡ 4096 → n ≤ 4096 → n ≤ i → best ≡ under s (rests_of ss n)
-  below_end f h l k = fall_end f (omega (arith, rests_length ss n h l))
+raised_no : (s w best : ℕ) → s ≤ w → best ≡ raised_by s w best
+raised_no s w best h = rw (le-ltb w s h)
+
+module _ (ss : List Soft) (d : Soft) {s best i : ℕ} where
+  pub fall_soft : Falling s (rests_of ss) best i → i < length ss → (get_or ss i d).weight < s → {b : ℕ} → b ≡ max (get_or ss i d).weight best → Falling s (rests_of ss) b (i + 1)
+  fall_soft f h l e = fall_next f (omega (arith, rests_long ss)) (rest_at ss i d h) (e ∙ raised_yes s (get_or ss i d).weight best l)
+
+  pub skip_soft : Falling s (rests_of ss) best i → i < length ss → s ≤ (get_or ss i d).weight → {b : ℕ} → b ≡ best → Falling s (rests_of ss) b (i + 1)
+  skip_soft f h l e = fall_next f (omega (arith, rests_long ss)) (rest_at ss i d h) (e ∙ raised_no s (get_or ss i d).weight best l)
+
+pub fall_all : {s : ℕ} (ss : List Soft) {best i : ℕ} → Falling s (rests_of ss) best i → length ss ≤ i → best ≡ under s (rests_of ss)
+fall_all ss f h = fall_end f (omega (arith, rests_long ss))
 
 -- ---- the assumed places
 
@@ -123,13 +93,7 @@ pub record Picking (s : ℕ) (ws ps₀ ps : List ℕ) (n i : ℕ) : Type 0 where
   pub few : n ≤ i
   pub rest : to_come ps n (assumed_from s i (drop i ws)) ≡ assumed_of s ws ps₀
 
-pub pick_start : (s : ℕ) (ws ps : List ℕ) → Picking s ws ps ps 0 0
-pick_start s ws ps = record { below = zero-le; few = zero-le; rest = ap (listed_places (sets ps 0 (assumed_from s 0 ws))) (zero-add _) }
-
 module _ {s : ℕ} {ws ps₀ ps : List ℕ} {n i : ℕ} where
-  pub pick_room : Picking s ws ps₀ ps n i → i < length ws → length ws ≤ 4096 → n < 4096
-  pick_room p h l = omega (arith, p.few)
-
   pub pick_next : Picking s ws ps₀ ps n i → i < length ws → {w : ℕ} → w ≡ get_or ws i 0 → s ≤ w → {x : ℕ} → x ≡ i
       → {ps₁ : List ℕ} → ps₁ ≡ set ps n x → {n₁ : ℕ} → n₁ ≡ n + 1 → Picking s ws ps₀ ps₁ n₁ (i + 1)
   pick_next p h {w} ew l {x} ex {ps₁} ep {n₁} en = record {
@@ -156,6 +120,17 @@ module _ {s : ℕ} {ws ps₀ ps : List ℕ} {n i : ℕ} where
   pub pick_end : Picking s ws ps₀ ps n i → length ws ≤ i → listed_places ps n ≡ assumed_of s ws ps₀
   unfolding assumed_from
   pick_end p h = sym (put_none ps n) ∙ sym (ap (λ (l : List ℕ). to_come ps n (assumed_from s i l)) (drop_of_length-le ws {i = i} h)) ∙ p.rest
+
+-- the same over records that are lent
+module _ (ss : List Soft) (d : Soft) {s : ℕ} {ps₀ ps : List ℕ} {n i : ℕ} where
+  pub pick_soft : Picking s (rests_of ss) ps₀ ps n i → i < length ss → s ≤ (get_or ss i d).weight → {ps₁ : List ℕ} → ps₁ ≡ set ps n i → {n₁ : ℕ} → n₁ ≡ n + 1 → Picking s (rests_of ss) ps₀ ps₁ n₁ (i + 1)
+  pick_soft p h l ep en = pick_next p (omega (arith, rests_long ss)) (rest_at ss i d h) l refl ep en
+
+  pub leave_soft : Picking s (rests_of ss) ps₀ ps n i → i < length ss → (get_or ss i d).weight < s → {ps₁ : List ℕ} → ps₁ ≡ ps → {n₁ : ℕ} → n₁ ≡ n → Picking s (rests_of ss) ps₀ ps₁ n₁ (i + 1)
+  leave_soft p h l ep en = pick_skip p (omega (arith, rests_long ss)) (rest_at ss i d h) l ep en
+
+pub pick_all : {s : ℕ} (ss : List Soft) {ps₀ ps : List ℕ} {n i : ℕ} → Picking s (rests_of ss) ps₀ ps n i → length ss ≤ i → listed_places ps n ≡ assumed_of s (rests_of ss) ps₀
+pick_all ss p h = pick_end p (omega (arith, rests_long ss))
 
 -- ---- those of them that are an entry's
 
@@ -188,26 +163,7 @@ pub record Pairing (ls : List ℤ) (js as' : List ℕ) (t₀ t : Pairs) (n i : �
   pub few : n ≤ i
   pub rest : pairs_to_come ls t n (entries_among js (drop i as')) ≡ entry_columns ls (entries_among js as') t₀
 
-pub pair_start : (ls : List ℤ) (js as' : List ℕ) (t : Pairs) → Pairing ls js as' t t 0 0
-pair_start ls js as' t = record {
-  below = zero-le;
-  few = zero-le;
-  rest = ap (paired (pairs (sets t.places 0 (entries_among js as')) (sets t.wishes 0 (map (λ (p : ℕ). neg_ℤ (get_or ls p (pos 0))) (entries_among js as'))))) (zero-add _);
-}
-
 module _ {ls : List ℤ} {js as' : List ℕ} {t₀ t : Pairs} {n i : ℕ} where
-  pub pair_place : Pairing ls js as' t₀ t n i → All (λ m. m < length ls) as' → i < length as' → {p : ℕ} → p ≡ get_or as' i 0 → p < length ls
-  pair_place c a h e = rw e (all_at (λ m. m < length ls) as' a i h)
-
-  pub pair_core : Pairing ls js as' t₀ t n i → length js ≡ length ls → All (λ m. m < length ls) as' → i < length as' → {p : ℕ} → p ≡ get_or as' i 0 → p < length js
-  pair_core c q a h e = omega (arith, pair_place c a h e)
-
-  pub pair_small : Pairing ls js as' t₀ t n i → length ls ≤ 4096 → All (λ m. m < length ls) as' → i < length as' → {p : ℕ} → p ≡ get_or as' i 0 → p < 4096
-  pair_small c q a h e = omega (arith, pair_place c a h e)
-
-  pub pair_room : Pairing ls js as' t₀ t n i → i < length as' → length as' ≤ 4096 → n < 4096
-  pair_room c h l = omega (arith, c.few)
-
   pub pair_next : Pairing ls js as' t₀ t n i → i < length as' → {p : ℕ} → p ≡ get_or as' i 0 → {t₁ : Pairs} {n₁ : ℕ} → paired t₁ n₁ ≡ put_entry js ls p (paired t n)
       → Pairing ls js as' t₀ t₁ n₁ (i + 1)
   pair_next c h {p} ep {t₁} {n₁} e = go (eqb (get_or js (get_or as' i 0) 0) 0) refl
@@ -246,11 +202,3 @@ module _ {ls : List ℤ} {js as' : List ℕ} {t₀ t : Pairs} {n i : ℕ} where
       sym (pair_none ls t n)
       ∙ sym (ap (pairs_to_come ls t n) (keep_nil (λ p. eqb (get_or js p 0) 0)))
       ∙ sym (ap (λ (l : List ℕ). pairs_to_come ls t n (entries_among js l)) (drop_of_length-le as' {i = i} h)) ∙ c.rest
-
--- the two ways of `put_entry`
-module _ (js : List ℕ) (ls : List ℤ) (p : ℕ) (ps : List ℕ) (ws : List ℤ) (n : ℕ) where
-  pub entry_yes : {j : ℕ} → j ≡ get_or js p 0 → j ≡ 0 → {x : ℕ} → x ≡ p → {l : ℤ} → l ≡ neg_ℤ (get_or ls p (pos 0)) → paired (pairs (set ps n x) (set ws n l)) (n + 1) ≡ put_entry js ls p (paired (pairs ps ws) n)
-  entry_yes ej z ex el = rw (eq-eqb (get_or js p 0) 0 (sym ej ∙ z), ex, el)
-
-  pub entry_no : {j : ℕ} → j ≡ get_or js p 0 → (j ≡ 0 → ⊥) → paired (pairs ps ws) n ≡ put_entry js ls p (paired (pairs ps ws) n)
-  entry_no ej z = rw (ne_eqb (get_or js p 0) 0 (λ q. z (ej ∙ q)))

@@ -1,48 +1,23 @@
 -- The columns of a table of soft literals, and the lists of places that a query works with. Assumes nothing: these are definitions.
-use Rattle.std.specs.Prelude.{◌≡◌, List, [], ◌∷◌, map, ℕ, ◌+◌, max, eqb, ltb, ℤ, pos, neg_ℤ, length, get_or, set, take}
+use Rattle.std.specs.Prelude.{List, map, ℕ, ◌+◌, eqb, ℤ, pos, neg_ℤ, length, get_or, set}
 use Rattle.std.proofs.lemmas.List.Edits.{sets}
 use Rattle.asp.specs.Sets.{pick}
 use Rattle.asp.specs.Stable.{keep}
 use Rattle.cores.specs.declared.soft.Soft.{Soft}
 use Rattle.cores.specs.Level.{assumed_from}
 
--- the literal, the core, the index and the remaining weight of each soft literal
-pub record Columns : Type 0 where
-  pub literals : List ℤ
-  pub cores : List ℕ
-  pub indices : List ℕ
-  pub weights : List ℕ
+-- the columns of some records: the literals, the cores, the indices and the remaining weights
+abbrev pub literals_of : List Soft → List ℤ
+literals_of ss = map (λ (r : Soft). r.literal) ss
 
-abbrev pub columns : List ℤ → List ℕ → List ℕ → List ℕ → Columns
-columns ls js is ws = record { literals = ls; cores = js; indices = is; weights = ws }
+abbrev pub cores_of : List Soft → List ℕ
+cores_of ss = map (λ (r : Soft). r.core) ss
 
--- arrays of 4,096 places
-pub record Long (c : Columns) : Type 0 where
-  pub literals : length c.literals ≡ 4096
-  pub cores : length c.cores ≡ 4096
-  pub indices : length c.indices ≡ 4096
-  pub weights : length c.weights ≡ 4096
+abbrev pub indices_of : List Soft → List ℕ
+indices_of ss = map (λ (r : Soft). r.index) ss
 
--- one record's fields are stored at place i
-abbrev pub put_columns : ℕ → Soft → Columns → Columns
-put_columns i r c = columns (set c.literals i r.literal) (set c.cores i r.core) (set c.indices i r.index) (set c.weights i r.weight)
-
--- the fields of some records are stored from place i on
-unfoldable pub unpacked_from : ℕ → List Soft → Columns → Columns
-unpacked_from i [] c = c
-unpacked_from i (r ∷ rs) c = unpacked_from (i + 1) rs (put_columns i r c)
-
--- the first `count` records, at the front
-abbrev pub unpacked_of : List Soft → ℕ → Columns → Columns
-unpacked_of ss count c = unpacked_from 0 (take count ss) c
-
--- their remaining weights
-abbrev pub rests_of : List Soft → ℕ → List ℕ
-rests_of ss count = map (λ (r : Soft). r.weight) (take count ss)
-
--- the greater of w and the best so far, if w is below s
-abbrev pub raised_by : ℕ → ℕ → ℕ → ℕ
-raised_by s w best = pick (ltb w s) (max w best) best
+abbrev pub rests_of : List Soft → List ℕ
+rests_of ss = map (λ (r : Soft). r.weight) ss
 
 -- a table of places, and how many of them are filled
 pub record ListedPlaces : Type 0 where

@@ -1,10 +1,8 @@
 -- The tables that a set is judged with: columns of numbers, lent as far as they are filled. Assumes nothing: these are definitions.
-use Rattle.std.specs.Prelude.{◌≡◌, Bool, List, [], ◌∷◌, ℕ, ◌+◌, ◌-◌, ◌≤◌, ◌<◌, eqb, ℤ, pos, nat_abs, length, get_or}
+use Rattle.std.specs.Prelude.{◌≡◌, Bool, Option, Some, None, List, [], ◌∷◌, ℕ, ◌+◌, ◌-◌, ◌≤◌, ◌<◌, eqb, ℤ, pos, nat_abs, length, get_or}
 use Rattle.std.proofs.Math.Seq.{slice}
 use Rattle.asp.specs.Sets.{Set, pick}
 use Rattle.asp.specs.Tables.{span}
-use Rattle.cores.specs.declared.judge.Judged.{Judged}
-use Rattle.cores.specs.declared.judge.Judged.TheVariants.{Met, Violated}
 use Rattle.cores.specs.Soft.{Kind, entry, derived, core_of, count_by, violated}
 
 -- the literal, the core and the index of each soft literal; where each core ends in the members, with 0 in front; the members
@@ -80,6 +78,6 @@ pub record CountAnswers (t : Judging) (M : Set) (before : List ℕ) (n j : ℕ) 
   pub counted : IsCounted after j
 
 -- the first of the places that is violated
-unfoldable pub first_violated : (ℕ → Bool) → List ℕ → Judged
-first_violated U [] = Met
-first_violated U (p ∷ ps) = pick (U p) (Violated p) (first_violated U ps)
+unfoldable pub first_violated : (ℕ → Bool) → List ℕ → Option ℕ
+first_violated U [] = None
+first_violated U (p ∷ ps) = pick (U p) (Some p) (first_violated U ps)

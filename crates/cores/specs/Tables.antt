@@ -1,5 +1,5 @@
 -- The code's tables of the level in work, and what they mean. Assumes nothing: these are definitions.
-use Rattle.std.specs.Prelude.{◌≡◌, Bool, true, false, ◌&&◌, ltb, List, [], ◌∷◌, map, ℕ, zero, suc, ◌+◌, ◌-◌, ◌≤◌, ◌<◌, ℤ, pos, nat_abs, length, get_or, set, take, replicate}
+use Rattle.std.specs.Prelude.{◌≡◌, Bool, ◌&&◌, Result, Ok, Err, ltb, List, [], ◌∷◌, map, ℕ, zero, suc, ◌+◌, ◌-◌, ◌≤◌, ◌<◌, ℤ, pos, nat_abs, length, get_or, set, take, replicate}
 use Rattle.asp.specs.Sets.{pick}
 use Rattle.asp.specs.Literal.{same_ℤ}
 use Rattle.std.proofs.lemmas.List.Edits.{sets}
@@ -8,10 +8,11 @@ use Rattle.asp.specs.Penalty.{Penalty, paid_literal}
 use Rattle.asp.specs.Tables.{span}
 use Rattle.cores.specs.declared.soft.Soft.{Soft}
 use Rattle.cores.specs.declared.level.LevelTables.{LevelTables}
+use Rattle.cores.specs.declared.recording.Full.{Full}
 use Rattle.cores.specs.Soft.{Kind, InOrder}
 use Rattle.cores.specs.Level.{Level, weighty, core_fits}
 use Rattle.cores.specs.Judging.{Judging, judging, kind_from, members_in}
-use Rattle.cores.specs.Columns.{Columns, Long}
+use Rattle.cores.specs.Columns.{literals_of, cores_of, indices_of, rests_of}
 
 abbrev pub no_soft : Soft
 no_soft = record { literal = pos 0; core = 0; index = 0; weight = 0 }
@@ -89,16 +90,20 @@ pub record Room (t : LevelTables) (n : ℕ) : Type 0 where
   pub softs : t.count + (n - 1) ≤ 4096
   pub members : held_in t + n ≤ 4096
 
+-- what recording a core answers, and the tables then
 pub record Tried : Type 0 where
-  pub full : Bool
+  pub answer : Result (Unit {0}) Full
   pub tables : LevelTables
 
-abbrev pub tried : Bool → LevelTables → Tried
-tried b t = record { full = b; tables = t }
+abbrev pub tried : Result (Unit {0}) Full → LevelTables → Tried
+tried r t = record { answer = r; tables = t }
+
+abbrev pub full_tables : Full
+full_tables = record {}
 
 -- "If a core would pass either, it isn't recorded and the status is full."
 abbrev pub tried_tables : LevelTables → ℕ → List ℕ → Tried
-tried_tables t s ms = pick (core_fits t.count (held_in t) (length ms)) (tried false (recorded_tables t s ms)) (tried true t)
+tried_tables t s ms = pick (core_fits t.count (held_in t) (length ms)) (tried (Ok tt) (recorded_tables t s ms)) (tried (Err full_tables) t)
 
 -- ---- what the tables mean
 
@@ -108,7 +113,7 @@ kind_of r = kind_from r.literal r.core r.index
 abbrev pub level_of : LevelTables → Level
 level_of t = record {
   kinds = map kind_of (take t.count t.softs);
-  rests = map (λ (r : Soft). r.weight) (take t.count t.softs);
+  rests = rests_of (take t.count t.softs);
   cores = span (members_in t.ends t.members) 0 t.cores;
   lower = t.lower;
 }
@@ -132,17 +137,11 @@ pub record SoundTables (t : LevelTables) : Type 0 where
   pub formed : FormedTables t
   pub ordered : InOrder (level_of t).kinds (level_of t).cores
 
--- ---- the columns of the tables, for a query
+-- ---- the tables, lent to a query
+
+-- what records, ends and members that are lent are judged by
+abbrev pub judging_of : List Soft → List ℕ → List ℕ → Judging
+judging_of ss es ms = judging (literals_of ss) (cores_of ss) (indices_of ss) es ms
 
 abbrev pub level_judging : LevelTables → Judging
-level_judging t =
-    judging (map (λ (r : Soft). r.literal) (take t.count t.softs)) (map (λ (r : Soft). r.core) (take t.count t.softs))
-    (map (λ (r : Soft). r.index) (take t.count t.softs)) (take (t.cores + 1) t.ends) (take (held_in t) t.members)
-
--- arrays whose fronts are the columns of the tables
-pub record FilledColumns (t : LevelTables) (c : Columns) : Type 0 where
-  pub long : Long c
-  pub literals : take t.count c.literals ≡ (level_judging t).literals
-  pub cores : take t.count c.cores ≡ (level_judging t).cores
-  pub indices : take t.count c.indices ≡ (level_judging t).indices
-  pub weights : take t.count c.weights ≡ (level_of t).rests
+level_judging t = judging_of (take t.count t.softs) (take (t.cores + 1) t.ends) (take (held_in t) t.members)

@@ -1,9 +1,7 @@
 // Soft literals (document 01: wishes), cores and levels: what specs/ defines, computed over tables.
 #![tactic(auto)]
 
-pub mod judge;
 pub mod level;
 pub mod recording;
 pub mod soft;
 pub mod softs;
-pub mod table;

@@ -1,137 +1,91 @@
 // Recording a core.
-ghost use Rattle.std.specs.Prelude.{◌≡◌, true, false, ◌+◌, ◌-◌, ◌<◌, ◌≤◌, length, get_or};
+ghost use Rattle.std.specs.Prelude.{◌≡◌, ◌+◌, ◌-◌, ◌<◌, ◌≤◌, length};
 ghost use Rattle.std.proofs.lemmas.List.Edits.{sets};
 ghost use Rattle.asp.specs.Program.{All};
 ghost use Rattle.cores.specs.Level.{core_fits};
-ghost use Rattle.cores.specs.Tables.{lighten, new_softs, recorded_tables, Counted, Room, tried, tried_tables};
+ghost use Rattle.cores.specs.Tables.{lighten, new_softs, held_in, recorded_tables, Counted, Room, tried, tried_tables};
 
 use crate::level::LevelTables;
 use crate::soft::Soft;
 use crate::softs::{put_soft, soft_at};
 
+// A core would pass a limit.
+#[derive(Clone, Copy, PartialEq, Eq, Debug)]
+pub struct Full;
+
 // Each member loses s.
-fn lose(softs: [Soft; 4096], members: &[u16], s: u32) -> [Soft; 4096]
-    requires { All (λ m. m < 4096) members.now }
-    ensures { result ≡ lighten s members.now softs }
+fn lose(softs: &mut [Soft], members: &[u16], s: u32)
+    requires { All (λ m. m < length softs.old) members.now }
+    ensures { softs.new ≡ lighten s members.now softs.old }
 {
-    let mut t = softs;
-    let mut i: usize = 0;
-    while i < members.len() {
-        let m = crate::table::at(members, i);
-        let r = soft_at(&t, m);
-        put_soft(&mut t, m, crate::soft::lighter(r, s));
-        i += 1;
+    for m in members {
+        let m = usize::from(*m);
+        let r = soft_at(softs, m);
+        put_soft(softs, m, r.lighter(s));
     }
-    t
 }
 
 // n new soft literals of a core, from place k on.
-fn add(softs: [Soft; 4096], k: usize, n: usize, core: usize, s: u32) -> [Soft; 4096]
-    requires n_bound { k + n ≤ 4096 }
+fn add(softs: &mut [Soft], k: usize, n: usize, core: usize, s: u32)
+    requires n_bound { k + n ≤ length softs.old }
+    requires n_few { n ≤ 4096 }
     requires core_bound { core ≤ 4096 }
-    ensures { result ≡ sets softs k (new_softs core 1 n s) }
+    ensures { softs.new ≡ sets softs.old k (new_softs core 1 n s) }
 {
-    let mut t = softs;
-    let mut i: usize = 0;
-    while i < n {
-        put_soft(&mut t, k + i, crate::soft::of_core(core, i + 1, s));
-        i += 1;
+    for i in 0..n {
+        put_soft(softs, k + i, Soft::of_core(core, i + 1, s));
     }
-    t
 }
 
 // The members, from place k on.
-fn append(members: [u16; 4096], k: usize, more: &[u16]) -> [u16; 4096]
-    requires { k + length more.now ≤ 4096 }
-    ensures { result ≡ sets members k more.now }
+fn append(members: &mut [u16], k: usize, more: &[u16])
+    requires { k + length more.now ≤ length members.old }
+    ensures { members.new ≡ sets members.old k more.now }
 {
-    let mut t = members;
-    let mut i: usize = 0;
-    while i < more.len() {
-        t[k + i] = more[i];
-        i += 1;
+    members[k..k + more.len()].copy_from_slice(more);
+}
+
+impl LevelTables {
+    // Whether a core of n members passes neither limit.
+    pub fn has_room(&self, n: usize) -> bool
+        requires count_bound { self.now.count ≤ 4096 }
+        requires cores_bound { self.now.cores ≤ 4096 }
+        requires held_bound { held_in self.now ≤ 4096 }
+        requires le_n { (1 ≤ n) × (n ≤ 4096) }
+        ensures { result ≡ core_fits self.now.count (held_in self.now) n }
+    {
+        self.count + (n - 1) <= 4096 && self.held() + n <= 4096
     }
-    t
-}
 
-// Whether a core of n members passes neither limit, at `count` soft literals and `held` members.
-pub fn has_room(count: usize, held: usize, n: usize) -> bool
-    requires count_bound { count ≤ 4096 }
-    requires held_bound { held ≤ 4096 }
-    requires le_n { (1 ≤ n) × (n ≤ 4096) }
-    ensures { result ≡ core_fits count held n }
-{
-    count + (n - 1) <= 4096 && held + n <= 4096
-}
-
-// How many members the cores have.
-pub fn held(ends: [u16; 4097], cores: usize) -> usize
-    requires { cores ≤ 4096 }
-    ensures { result ≡ get_or ends cores 0 }
-{
-    ends[cores] as usize
-}
-
-fn end_of(from: usize, n: usize) -> u16
-    requires { from + n ≤ 4096 }
-    ensures { result ≡ from + n }
-{
-    (from + n) as u16
-}
-
-// A core of the places in `core` is recorded at stratum s.
-pub fn with_core(t: LevelTables, core: &[u16], s: u32) -> LevelTables
-    requires room { Room t (length core.now) }
-    requires all { All (λ m. m < 4096) core.now }
-    requires s_bound { t.lower + s ≤ 1000000000 }
-    ensures { result ≡ recorded_tables t s core.now }
-{
-    let n = core.len();
-    let cores = t.cores;
-    let count = t.count;
-    let old_softs = t.softs;
-    let old_members = t.members;
-    let mut ends = t.ends;
-    let from = held(ends, cores);
-    let softs = add(lose(old_softs, core, s), count, n - 1, cores + 1, s);
-    let members = append(old_members, from, core);
-    ends[cores + 1] = end_of(from, n);
-    LevelTables {
-        softs,
-        members,
-        ends,
-        count: count + (n - 1),
-        cores: cores + 1,
-        lower: t.lower + s as u64,
+    // A core of the places in `core` is recorded at stratum s.
+    pub fn record(&mut self, core: &[u16], s: u32)
+        requires room { Room self.old (length core.now) }
+        requires all { All (λ m. m < 4096) core.now }
+        requires s_bound { self.old.lower + s ≤ 1000000000 }
+        ensures { self.new ≡ recorded_tables self.old s core.now }
+    {
+        let n = core.len();
+        let from = self.held();
+        lose(&mut self.softs, core, s);
+        add(&mut self.softs, self.count, n - 1, self.cores + 1, s);
+        append(&mut self.members, from, core);
+        self.cores += 1;
+        self.ends[self.cores] = (from + n) as u16;
+        self.count += n - 1;
+        self.lower += u64::from(s);
     }
-}
 
-#[derive(Clone, Copy)]
-pub struct Recorded {
-    pub full: bool,
-    pub tables: LevelTables,
-}
-
-// The core is recorded, unless it would pass a limit.
-pub fn record_core(t: LevelTables, core: &[u16], s: u32) -> Recorded
-    requires counted { Counted t (length core.now) }
-    requires all { All (λ m. m < 4096) core.now }
-    requires s_bound { t.lower + s ≤ 1000000000 }
-    ensures { tried result.full result.tables ≡ tried_tables t s core.now }
-{
-    let n = core.len();
-    let cores = t.cores;
-    let ends = t.ends;
-    if has_room(t.count, held(ends, cores), n) {
-        let u = with_core(t, core, s);
-        Recorded {
-            full: false,
-            tables: u,
+    // The core is recorded, unless it would pass a limit: then nothing changes.
+    pub fn try_record(&mut self, core: &[u16], s: u32) -> Result<(), Full>
+        requires counted { Counted self.old (length core.now) }
+        requires all { All (λ m. m < 4096) core.now }
+        requires s_bound { self.old.lower + s ≤ 1000000000 }
+        ensures { tried result self.new ≡ tried_tables self.old s core.now }
+    {
+        if !self.has_room(core.len()) {
+            return Err(Full);
         }
-    } else {
-        Recorded {
-            full: true,
-            tables: t,
-        }
+        self.record(core, s);
+        Ok(())
     }
 }

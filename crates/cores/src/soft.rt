@@ -1,9 +1,9 @@
 // One soft literal: its record.
-ghost use Rattle.std.specs.Prelude.{◌≡◌, ◌≤◌, ◌-◌};
-ghost use Rattle.cores.specs.Tables.{no_soft, entry_soft, core_soft, lighter_by};
+ghost use Rattle.std.specs.Prelude.{◌≡◌, ◌≤◌};
+ghost use Rattle.cores.specs.Tables.{entry_soft, core_soft, lighter_by};
 
-// Of an entry: core 0, and the literal that violates it. The index-th of a core: literal 0.
-#[derive(Clone, Copy)]
+// Of an entry: core 0, and the literal that violates it. The index-th of a core: literal 0. A free place is the default.
+#[derive(Clone, Copy, PartialEq, Eq, Debug, Default)]
 pub struct Soft {
     pub literal: i32,
     pub core: u16,
@@ -11,57 +11,38 @@ pub struct Soft {
     pub weight: u32,
 }
 
-// A free place.
-pub fn none() -> Soft
-    ensures { result ≡ no_soft }
-{
-    Soft {
-        literal: 0,
-        core: 0,
-        index: 0,
-        weight: 0,
+impl Soft {
+    pub fn of_entry(literal: i32, weight: u32) -> Self
+        ensures { result ≡ entry_soft literal weight }
+    {
+        Soft {
+            literal,
+            core: 0,
+            index: 0,
+            weight,
+        }
     }
-}
 
-pub fn of_entry(literal: i32, weight: u32) -> Soft
-    ensures { result ≡ entry_soft literal weight }
-{
-    Soft {
-        literal,
-        core: 0,
-        index: 0,
-        weight,
+    pub fn of_core(core: usize, index: usize, weight: u32) -> Self
+        requires core_bound { core ≤ 4096 }
+        requires index_bound { index ≤ 4096 }
+        ensures { result ≡ core_soft core index weight }
+    {
+        Soft {
+            literal: 0,
+            core: core as u16,
+            index: index as u16,
+            weight,
+        }
     }
-}
 
-pub fn of_core(core: usize, index: usize, weight: u32) -> Soft
-    requires core_bound { core ≤ 4096 }
-    requires index_bound { index ≤ 4096 }
-    ensures { result ≡ core_soft core index weight }
-{
-    Soft {
-        literal: 0,
-        core: core as u16,
-        index: index as u16,
-        weight,
-    }
-}
-
-// What is left of a weight.
-pub fn less(w: u32, s: u32) -> u32
-    ensures { result ≡ w - s }
-{
-    if w < s { 0 } else { w - s }
-}
-
-// The same soft literal, with that much weight less.
-pub fn lighter(r: Soft, s: u32) -> Soft
-    ensures { result ≡ lighter_by s r }
-{
-    Soft {
-        literal: r.literal,
-        core: r.core,
-        index: r.index,
-        weight: less(r.weight, s),
+    // The same soft literal, with that much weight less.
+    pub fn lighter(self, s: u32) -> Self
+        ensures { result ≡ lighter_by s self }
+    {
+        Soft {
+            weight: self.weight.saturating_sub(s),
+            ..self
+        }
     }
 }

@@ -1,5 +1,5 @@
 // The table of soft literals, lent as a slice of records (document 01: "The wish table is lent to its calls as a slice of records").
-// Every read and every replacement of one record goes by these two.
+// Every read and every replacement of one record by its place goes by these two.
 ghost use Rattle.std.specs.Prelude.{◌≡◌, ◌<◌, length, get_or, set};
 ghost use Rattle.cores.specs.Tables.{no_soft};
 

@@ -3,21 +3,18 @@ use mathlib.Core.Path.{◌≡◌, sym, ap, ap₂, ◌∙◌}
 use mathlib.Core.Bool.{Bool, true, false}
 use mathlib.Core.List.{List}
 use Prim.Native.Nat.{ℕ, suc, ◌+◌, ◌*◌, ◌≤◌, ◌<◌, zero-le}
-use native.Mathlib.Nat.{zero-add, add-zero, mul-le-mul_left}
+use native.Mathlib.Nat.{zero-add, add-zero}
 use native.Mathlib.Numerals.{add-one}
 use native.Mathlib.Omega.{arith}
-use lib.ListN.{length, get_or, drop, drop_of_length-le}
+use lib.ListN.{length, get_or, drop, length-map, drop_of_length-le}
+use Rattle.std.proofs.lemmas.List.{get_or-map}
+use Rattle.cores.specs.declared.soft.Soft.{Soft}
+use Rattle.cores.specs.Columns.{rests_of}
 use lib.Seq.{drop-cons}
 use Rattle.asp.specs.Sets.{Set, ind}
 use Rattle.cores.specs.Sums.{wsum}
 use Rattle.cores.specs.Judging.{Judging, violated_at, Known, Answers}
 use Rattle.cores.proofs.Sums.{wsum_ext}
-
-pub plus_yes : (n w : ℕ) (b : Bool) → b ≡ true → n + w ≡ n + w * ind b
-plus_yes n w b e = rw e (omega arith)
-
-pub plus_no : (n w : ℕ) (b : Bool) → b ≡ false → n ≡ n + w * ind b
-plus_no n w b e = rw e (omega arith)
 
 -- ---- the loop
 
@@ -47,28 +44,41 @@ after_next f p ws h =
     ∙ ap₂ ◌+◌ (ap (λ (x : ℕ). get_or ws p 0 * f x) (add-zero p))
     (ap (λ (k : ℕ). wsum (λ q. f (p + suc q)) (drop k ws)) (sym (add-one p)) ∙ wsum_ext _ _ (drop (p + 1) ws) (λ q l. ap f (omega arith)))
 
-small_weight : (f : ℕ → ℕ) (ws : List ℕ) (p n : ℕ) → f p ≤ 1 → get_or ws p 0 < n → get_or ws p 0 * f p ≤ n
-small_weight f ws p n h l = omega (arith, mul-le-mul_left (get_or ws p 0) h)
-
-ind_small : (b : Bool) → ind b ≤ 1
-ind_small true = omega arith
-ind_small false = omega arith
-
 module _ {t : Judging} {M : Set} {ws counts : List ℕ} {total p : ℕ} where
-  pub sum_fits : Summing t M ws counts total p → length ws ≤ 4096 → p < length ws → total ≤ 17592186044416
-  sum_fits s h l = omega (arith, s.bound)
-
-  pub sum_next : Summing t M ws counts total p → p < length ws → {b : Bool} {c : List ℕ} → Answers t M counts b (violated_at t M p) c → length c ≡ length counts
-      → {w : ℕ} → w ≡ get_or ws p 0 → w < 4294967296 → {n : ℕ} → n ≡ total + w * ind b → Summing t M ws c n (p + 1)
-  sum_next s h {b} {c} a u {w} ew small {n} en =
-      let e : w * ind b ≡ get_or ws p 0 * ind (violated_at t M p) = ap₂ (λ (x : ℕ) (y : Bool). x * ind y) ew a.is in
-      record {
-        known = a.known;
-        long = u ∙ s.long;
-        below = omega arith;
-        bound = omega (arith, s.bound, small_weight (λ q. ind (violated_at t M q)) ws p 4294967296 (ind_small (violated_at t M p)) (omega arith));
-        rest = omega (arith, s.rest, after_next (λ q. ind (violated_at t M q)) p ws h);
-      }
+  sum_next : Summing t M ws counts total p → p < length ws → {b : Bool} {c : List ℕ} → Answers t M counts b (violated_at t M p) c → length c ≡ length counts
+      → {n : ℕ} → n ≡ total + get_or ws p 0 * ind b → n ≤ (p + 1) * 4294967296 → Summing t M ws c n (p + 1)
+  sum_next s h {b} {c} a u {n} en few = record {
+    known = a.known;
+    long = u ∙ s.long;
+    below = omega arith;
+    bound = few;
+    rest = omega (arith, s.rest, ap (λ (y : Bool). get_or ws p 0 * ind y) a.is, after_next (λ q. ind (violated_at t M q)) p ws h);
+  }
 
   pub sum_end : Summing t M ws counts total p → length ws ≤ p → total ≡ wsum (λ q. ind (violated_at t M q)) ws
   sum_end s h = omega (arith, s.rest, ap (wsum (λ q. ind (violated_at t M (p + q)))) (drop_of_length-le ws {i = p} h))
+
+-- ---- the same over records that are lent
+
+rest_at : (ss : List Soft) (i : ℕ) (d : Soft) → i < length ss → (get_or ss i d).weight ≡ get_or (rests_of ss) i 0
+rest_at ss i d h = sym (get_or-map (λ (r : Soft). r.weight) ss i d 0 h)
+
+inside : (ss : List Soft) (p : ℕ) → p < length ss → p < length (rests_of ss)
+inside ss p h = omega (arith, length-map ss (λ (r : Soft). r.weight))
+
+module _ (ss : List Soft) {t : Judging} {M : Set} {counts : List ℕ} {total p : ℕ} where
+  -- the weight at place p is added if it is violated
+  pub sum_yes : Summing t M (rests_of ss) counts total p → p < length ss → {b : Bool} {c : List ℕ} → Answers t M counts b (violated_at t M p) c → length c ≡ length counts → b ≡ true
+      → (d : Soft) → {w : ℕ} → w ≡ (get_or ss p d).weight → w < 4294967296 → {n : ℕ} → n ≡ total + w → Summing t M (rests_of ss) c n (p + 1)
+  sum_yes s h {b} a u y d {w} ew small {n} en =
+      let e : n ≡ total + get_or (rests_of ss) p 0 * ind b = rw y (omega (arith, rest_at ss p d h)) in
+      sum_next s (inside ss p h) a u e (omega (arith, s.bound))
+
+  pub sum_no : Summing t M (rests_of ss) counts total p → p < length ss → {b : Bool} {c : List ℕ} → Answers t M counts b (violated_at t M p) c → length c ≡ length counts → b ≡ false
+      → {n : ℕ} → n ≡ total → Summing t M (rests_of ss) c n (p + 1)
+  sum_no s h {b} a u y {n} en =
+      let e : n ≡ total + get_or (rests_of ss) p 0 * ind b = rw y (omega arith) in
+      sum_next s (inside ss p h) a u e (omega (arith, s.bound))
+
+  pub sum_all : Summing t M (rests_of ss) counts total p → length ss ≤ p → total ≡ wsum (λ q. ind (violated_at t M q)) (rests_of ss)
+  sum_all s h = sum_end s (omega (arith, length-map ss (λ (r : Soft). r.weight)))

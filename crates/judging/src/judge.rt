@@ -1,195 +1,131 @@
 // Judging soft literals for a set. Judging one and counting a core's violated members call each other; the core number falls.
 // The counts are kept for the set at hand, so that no core is counted twice.
-ghost use Rattle.std.specs.Prelude.{◌≡◌, ◌+◌, ◌<◌, ◌≤◌, pos, nat_abs, ◌++◌, length, get_or, set};
-ghost use Rattle.asp.specs.Program.{All};
-ghost use Rattle.asp.specs.Sets.{set_of};
-ghost use Rattle.asp.specs.Stable.{holds};
-ghost use Rattle.cores.specs.Judging.{judging, violated_at, FormedJudging, Known, Answers, CountAnswers, first_violated};
+ghost use Rattle.cores.specs.Judging.{FormedJudging};
+ghost use Rattle.cores.specs.Tables.{judging_of};
 
-use cores::judge::Judged;
-use cores::table::at;
+use cores::level::LevelTables;
+use cores::soft::Soft;
+use cores::softs::soft_at;
 
-// Whether the literal at place p holds.
-fn holds_at<'a>(literals: &'a [i32], model: &'a [u8], p: usize) -> bool
-    requires p_in_bounds { p < length literals.now }
-    requires pos_bound { nat_abs (get_or literals.now p (pos 0)) ≤ 1024 }
-    requires in_bounds { 1024 < length model.now }
-    ensures { result ≡ holds (set_of model.now) (get_or literals.now p (pos 0)) }
-{
-    asp::literal::holds(model, literals[p])
+// The soft literals of a level and its cores, lent as far as the tables are filled: the records, where each core ends in the members, and the members.
+#[derive(Clone, Copy)]
+pub struct Cores<'a> {
+    pub softs: &'a [Soft],
+    pub ends: &'a [u16],
+    pub members: &'a [u16],
+    ghost formed: { FormedJudging (judging_of softs.now ends.now members.now) },
 }
 
-// The count of core j is kept.
-fn keep(counts: &mut [u16], j: usize, n: usize)
-    requires j_in_bounds { j < length counts.old }
-    requires n_bound { n ≤ 4096 }
-    ensures { counts.new ≡ set counts.old j (n + 1) }
-{
-    counts[j] = (n + 1) as u16;
-}
+impl<'a> Cores<'a> {
+    ghost use Rattle.std.specs.Prelude.{◌≡◌, ◌+◌, ◌<◌, ◌≤◌, ◌++◌, length, take};
+    ghost use Rattle.asp.specs.Program.{All};
+    ghost use Rattle.asp.specs.Sets.{set_of};
+    ghost use Rattle.cores.specs.Judging.{violated_at, Known, Answers, CountAnswers, first_violated};
+    ghost use Rattle.cores.specs.Tables.{held_in, SoundTables};
+    ghost use Rattle.judging.specs.Lent.{tables_of};
 
-// Whether the soft literal at place p is violated.
-#[cycle(count_violated)]
-pub fn violated<'a>(
-    p: usize,
-    literals: &'a [i32],
-    cores: &'a [u16],
-    indices: &'a [u16],
-    ends: &'a [u16],
-    members: &'a [u16],
-    model: &'a [u8],
-    counts: &mut [u16],
-) -> bool
-    requires formed_judging { FormedJudging (judging literals.now cores.now indices.now ends.now members.now) }
-    requires p_in_bounds { p < length literals.now }
-    requires in_bounds { 1024 < length model.now }
-    requires known { Known (judging literals.now cores.now indices.now ends.now members.now) (set_of model.now) counts.old }
-    ensures { Answers (judging literals.now cores.now indices.now ends.now members.now) (set_of model.now) counts.old result (violated_at (judging literals.now cores.now indices.now ends.now members.now) (set_of model.now) p) counts.new }
-{
-    let j = at(cores, p);
-    if j == 0 {
-        return holds_at(literals, model, p);
-    }
-    let n = count(j, literals, cores, indices, ends, members, model, counts);
-    at(indices, p) < n
-}
-
-// How many members of core j are violated.
-#[cycle(count_violated)]
-pub fn count<'a>(
-    j: usize,
-    literals: &'a [i32],
-    cores: &'a [u16],
-    indices: &'a [u16],
-    ends: &'a [u16],
-    members: &'a [u16],
-    model: &'a [u8],
-    counts: &mut [u16],
-) -> usize
-    requires formed_judging { FormedJudging (judging literals.now cores.now indices.now ends.now members.now) }
-    requires le_j { (1 ≤ j) × (j < length ends.now) }
-    requires in_bounds { 1024 < length model.now }
-    requires known { Known (judging literals.now cores.now indices.now ends.now members.now) (set_of model.now) counts.old }
-    ensures { CountAnswers (judging literals.now cores.now indices.now ends.now members.now) (set_of model.now) counts.old result j counts.new }
-{
-    let old = at(counts, j);
-    if old != 0 {
-        return old - 1;
-    }
-    let end = at(ends, j);
-    let mut k = at(ends, j - 1);
-    let mut n: usize = 0;
-    while k < end {
-        let m = at(members, k);
-        if violated(m, literals, cores, indices, ends, members, model, counts) {
-            n += 1;
-        }
-        k += 1;
-    }
-    keep(counts, j, n);
-    n
-}
-
-// The first of the places that is violated.
-pub fn first_violated<'a>(
-    places: &'a [u16],
-    literals: &'a [i32],
-    cores: &'a [u16],
-    indices: &'a [u16],
-    ends: &'a [u16],
-    members: &'a [u16],
-    model: &'a [u8],
-    counts: &mut [u16],
-) -> Judged
-    requires formed_judging { FormedJudging (judging literals.now cores.now indices.now ends.now members.now) }
-    requires all { All (λ m. m < length literals.now) places.now }
-    requires in_bounds { 1024 < length model.now }
-    requires known { Known (judging literals.now cores.now indices.now ends.now members.now) (set_of model.now) counts.old }
-    ensures { Answers (judging literals.now cores.now indices.now ends.now members.now) (set_of model.now) counts.old result (first_violated (violated_at (judging literals.now cores.now indices.now ends.now members.now) (set_of model.now)) places.now) counts.new }
-{
-    let mut i: usize = 0;
-    while i < places.len() {
-        let p = at(places, i);
-        if violated(p, literals, cores, indices, ends, members, model, counts) {
-            return Judged::Violated(p);
-        }
-        i += 1;
-    }
-    Judged::Met
-}
-
-// The first violated place of two lists, one after the other, by the counts that are kept.
-fn judge_with<'a>(
-    places: &'a [u16],
-    more: &'a [u16],
-    literals: &'a [i32],
-    cores: &'a [u16],
-    indices: &'a [u16],
-    ends: &'a [u16],
-    members: &'a [u16],
-    model: &'a [u8],
-    counts: &mut [u16],
-) -> Judged
-    requires formed_judging { FormedJudging (judging literals.now cores.now indices.now ends.now members.now) }
-    requires all { All (λ m. m < length literals.now) places.now }
-    requires all_2 { All (λ m. m < length literals.now) more.now }
-    requires in_bounds { 1024 < length model.now }
-    requires known { Known (judging literals.now cores.now indices.now ends.now members.now) (set_of model.now) counts.old }
-    ensures { result ≡ first_violated (violated_at (judging literals.now cores.now indices.now ends.now members.now) (set_of model.now)) (places.now ++ more.now) }
-{
-    let first = first_violated(
-        places, literals, cores, indices, ends, members, model, counts,
-    );
-    match first {
-        Judged::Violated(p) => Judged::Violated(p),
-        Judged::Met => {
-            first_violated(more, literals, cores, indices, ends, members, model, counts)
+    // Those of the level in work.
+    pub fn of(t: &'a LevelTables) -> Self
+        requires { SoundTables t.now }
+        ensures softs { result.softs.now ≡ take t.now.count t.now.softs }
+        ensures ends { result.ends.now ≡ take (t.now.cores + 1) t.now.ends }
+        ensures members { result.members.now ≡ take (held_in t.now) t.now.members }
+    {
+        Cores {
+            softs: t.soft_literals(),
+            ends: &t.ends[..t.cores + 1],
+            members: &t.members[..t.held()],
         }
     }
-}
 
-// The same with no count kept yet. Each core is counted once at most.
-pub fn judge_both<'a>(
-    places: &'a [u16],
-    more: &'a [u16],
-    literals: &'a [i32],
-    cores: &'a [u16],
-    indices: &'a [u16],
-    ends: &'a [u16],
-    members: &'a [u16],
-    model: &'a [u8],
-) -> Judged
-    requires formed_judging { FormedJudging (judging literals.now cores.now indices.now ends.now members.now) }
-    requires all { All (λ m. m < length literals.now) places.now }
-    requires all_2 { All (λ m. m < length literals.now) more.now }
-    requires in_bounds { 1024 < length model.now }
-    ensures { result ≡ first_violated (violated_at (judging literals.now cores.now indices.now ends.now members.now) (set_of model.now)) (places.now ++ more.now) }
-{
-    // This is done at each stable leaf: where there are few cores, clearing all 8 KB costs more than counting them.
-    if ends.len() <= 64 {
-        let mut counts = [0u16; 64];
-        return judge_with(
-            places,
-            more,
-            literals,
-            cores,
-            indices,
-            ends,
-            members,
-            model,
-            &mut counts,
-        );
+    // Whether the soft literal at place p is violated.
+    // Kept: the set, a slice that is long enough, and the counts beside it stay parameters. A struct with the `&mut` in it would have to promise at each call that it holds the same
+    // tables and the same set, and an array for the set would ask more of callers.
+    #[cycle(count_violated)]
+    pub fn violated(&self, p: usize, model: &[u8], counts: &mut [u16]) -> bool
+        requires p_in_bounds { p < length self.now.softs.now }
+        requires in_bounds { 1024 < length model.now }
+        requires known { Known (tables_of self.now) (set_of model.now) counts.old }
+        ensures { Answers (tables_of self.now) (set_of model.now) counts.old result (violated_at (tables_of self.now) (set_of model.now) p) counts.new }
+    {
+        let r = soft_at(self.softs, p);
+        let j = usize::from(r.core);
+        if j == 0 {
+            return asp::literal::holds(model, r.literal);
+        }
+        usize::from(r.index) < self.count(j, model, counts)
     }
-    let mut counts = [0u16; 4097];
-    judge_with(
-        places,
-        more,
-        literals,
-        cores,
-        indices,
-        ends,
-        members,
-        model,
-        &mut counts,
-    )
+
+    // How many members of core j are violated.
+    #[cycle(count_violated)]
+    pub fn count(&self, j: usize, model: &[u8], counts: &mut [u16]) -> usize
+        requires le_j { (1 ≤ j) × (j < length self.now.ends.now) }
+        requires in_bounds { 1024 < length model.now }
+        requires known { Known (tables_of self.now) (set_of model.now) counts.old }
+        ensures { CountAnswers (tables_of self.now) (set_of model.now) counts.old result j counts.new }
+    {
+        let old = usize::from(counts[j]);
+        if old != 0 {
+            return old - 1;
+        }
+        let mut n: usize = 0;
+        for k in usize::from(self.ends[j - 1])..usize::from(self.ends[j]) {
+            if self.violated(usize::from(self.members[k]), model, counts) {
+                n += 1;
+            }
+        }
+        counts[j] = (n + 1) as u16;
+        n
+    }
+
+    // The first of the places that is violated.
+    pub fn first_violated(&self, places: &[u16], model: &[u8], counts: &mut [u16]) -> Option<usize>
+        requires all { All (λ m. m < length self.now.softs.now) places.now }
+        requires in_bounds { 1024 < length model.now }
+        requires known { Known (tables_of self.now) (set_of model.now) counts.old }
+        ensures { Answers (tables_of self.now) (set_of model.now) counts.old result (first_violated (violated_at (tables_of self.now) (set_of model.now)) places.now) counts.new }
+    {
+        for p in places {
+            let p = usize::from(*p);
+            if self.violated(p, model, counts) {
+                return Some(p);
+            }
+        }
+        None
+    }
+
+    // The first violated place of two lists, one after the other, by the counts that are kept.
+    fn judge_with(
+        &self,
+        places: &[u16],
+        more: &[u16],
+        model: &[u8],
+        counts: &mut [u16],
+    ) -> Option<usize>
+        requires all { All (λ m. m < length self.now.softs.now) places.now }
+        requires all_2 { All (λ m. m < length self.now.softs.now) more.now }
+        requires in_bounds { 1024 < length model.now }
+        requires known { Known (tables_of self.now) (set_of model.now) counts.old }
+        ensures { result ≡ first_violated (violated_at (tables_of self.now) (set_of model.now)) (places.now ++ more.now) }
+    {
+        // Kept: a match and no `or_else`, of which the proof did not close, since its closure lends the counts on.
+        match self.first_violated(places, model, counts) {
+            Some(p) => Some(p),
+            None => self.first_violated(more, model, counts),
+        }
+    }
+
+    // The same with no count kept yet. Each core is counted once at most.
+    pub fn judge_both(&self, places: &[u16], more: &[u16], model: &[u8]) -> Option<usize>
+        requires all { All (λ m. m < length self.now.softs.now) places.now }
+        requires all_2 { All (λ m. m < length self.now.softs.now) more.now }
+        requires in_bounds { 1024 < length model.now }
+        ensures { result ≡ first_violated (violated_at (tables_of self.now) (set_of model.now)) (places.now ++ more.now) }
+    {
+        // This is done at each stable leaf: where there are few cores, clearing all 8 KB costs more than counting them.
+        if self.ends.len() <= 64 {
+            return self.judge_with(places, more, model, &mut [0; 64]);
+        }
+        self.judge_with(places, more, model, &mut [0; 4097])
+    }
 }

@@ -19,7 +19,8 @@ use Rattle.asp.proofs.Paying.{entry_atom}
 use Rattle.cores.specs.declared.level.LevelTables.{LevelTables}
 use Rattle.cores.specs.Level.{under, greatest, core_fits, FormedPenalties}
 use Rattle.cores.specs.Level as lev
-use Rattle.cores.specs.Tables.{level_of, held_in, opened_tables, recorded_tables, FormedTables, Counted, tried}
+use Rattle.cores.specs.Tables.{level_of, held_in, opened_tables, recorded_tables, FormedTables, Counted, tried, full_tables}
+use Rattle.std.specs.Prelude.{Ok, Err}
 use Rattle.cores.proofs.Kept.{level_formed, opened_means, opened_sound, first_stratum}
 use Rattle.advancing.specs.Source.{Levels, many, entries_in, penalties_at, FormedLevels}
 use Rattle.advancing.specs.declared.state.Work.{Work}
@@ -267,7 +268,7 @@ pub finish_by : (L : Levels) (p : Phase) (w : Work) (v ms : List ℕ) (x : Turn)
     → finished_of L p b (pick b (recorded_work w ms) w) v x ≡ finish_of L p w v ms x
 finish_by L p w v ms x q = ap (λ (b : Bool). finished_of L p b (pick b (recorded_work w ms) w) v x) q ∙ by_phase p
   where
-    by_room : (b : Bool) → finished_level L b (pick b (recorded_work w ms) w) v Without ≡ tried_work L w (pick b (tried false (recorded_tables w.tables w.stratum ms)) (tried true w.tables))
+    by_room : (b : Bool) → finished_level L b (pick b (recorded_work w ms) w) v Without ≡ tried_work L w (pick b (tried (Ok tt) (recorded_tables w.tables w.stratum ms)) (tried (Err full_tables) w.tables))
     by_room true = refl
     by_room false = refl
 

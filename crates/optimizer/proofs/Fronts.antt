@@ -1,22 +1,30 @@
--- What `unpack`, `assumed` and `entries` of crate `cores` leave at the fronts of their arrays is the query. Assumes nothing.
+-- What `assumed` and `entries` of crate `judging` leave at the fronts of their arrays is the query. Assumes nothing.
 use mathlib.Core.Path.{◌≡◌, ap, ap₂, ◌∙◌}
 use mathlib.Core.List.{List, map}
-use Prim.Native.Nat.{ℕ, ◌≤◌}
+use Prim.Native.Nat.{ℕ, ◌+◌, ◌≤◌, ◌<◌}
 use native.Mathlib.Omega.{arith}
 use lib.Dec.{eqb}
 use lib.IntN.{ℤ, pos, neg_ℤ}
-use lib.ListN.{length, get_or, take, replicate, length-replicate}
+use lib.ListN.{length, get_or, take, replicate, length-replicate, length-map}
+use Rattle.asp.specs.Program.{All}
 use lib.Seq.{length-sets}
 use Rattle.cores.specs.Level.{assumed_from}
-use Rattle.cores.specs.Judging.{Judging, judging}
-use Rattle.cores.specs.Columns.{Columns, ListedPlaces, listed_places, assumed_of, entries_among, Pairs, pairs, Paired, paired, entry_columns}
+use Rattle.cores.specs.Judging.{judging}
+use Rattle.cores.specs.Columns.{literals_of, rests_of, ListedPlaces, listed_places, assumed_of, entries_among, Pairs, pairs, Paired, paired, entry_columns}
 use Rattle.cores.proofs.Strata.{assumed_length}
-use Rattle.cores.specs.Tables.{FilledColumns}
+use Rattle.cores.specs.Tables.{held_in, judging_of}
+use Rattle.cores.specs.declared.soft.Soft.{Soft}
 use Rattle.cores.specs.declared.level.LevelTables.{LevelTables}
-use Rattle.cores.proofs.Unpacked.{cut_judging, cut_is}
 use Rattle.cores.proofs.Kept.{assumed_front, entries_front, wishes_front}
 use Rattle.advancing.specs.Turn.{query_tables, query_by, query_of}
 use Rattle.advancing.proofs.Classes.{keep_length}
+
+-- the records have as many weights, and as many literals
+pub rests_few : (ss : List Soft) → length ss ≤ 4096 → length (rests_of ss) ≤ 4096
+rests_few ss h = omega (arith, length-map ss (λ (r : Soft). r.weight))
+
+pub softs_inside : (ss : List Soft) (ms : List ℕ) → All (λ m. m < length (literals_of ss)) ms → All (λ m. m < length ss) ms
+softs_inside ss ms a = rw length-map at a
 
 -- `assumed` of the remaining weights ws at stratum s, into zeros
 module _ (s : ℕ) (ws : List ℕ) {qs : List ℕ} {m : ℕ} (h : length ws ≤ 4096) (e : listed_places qs m ≡ assumed_of s ws (replicate 4096 0)) where
@@ -62,7 +70,8 @@ module _ (s : ℕ) (ws : List ℕ) {qs : List ℕ} {m : ℕ} (h : length ws ≤ 
         ap₂ (λ (a : List ℤ) (b : List ℕ). query_tables level lowers a b (take m qs) (judging ls js is es ms)) wished_front spots_front
         ∙ ap (λ (a : List ℕ). query_tables level lowers (map (λ (p : ℕ). neg_ℤ (get_or ls p (pos 0))) (entries_among js a)) (entries_among js a) a (judging ls js is es ms)) assumed_is
 
--- the query of the level's tables is that of its columns
-pub columns_query : (t : LevelTables) (c : Columns) → FilledColumns t c → (level s : ℕ) (lowers : List ℤ) → query_by level lowers (cut_judging t c) (take t.count c.weights) s ≡ query_of level lowers t s
+-- the query of the level's tables is that of what is lent of them
+pub lent_query : (t : LevelTables) {ss : List Soft} {es ms : List ℕ} → ss ≡ take t.count t.softs → es ≡ take (t.cores + 1) t.ends → ms ≡ take (held_in t) t.members
+    → (level s : ℕ) (lowers : List ℤ) → query_by level lowers (judging_of ss es ms) (rests_of ss) s ≡ query_of level lowers t s
 unfolding query_of
-columns_query t c q level s lowers = ap₂ (λ (j : Judging) (r : List ℕ). query_by level lowers j r s) (cut_is t c q) q.weights
+lent_query t a b c level s lowers = rw (a, b, c)

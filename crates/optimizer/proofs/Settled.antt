@@ -7,12 +7,12 @@ use native.Mathlib.Nat.{sub-zero}
 use native.Mathlib.Omega.{arith}
 use lib.IntN.{ℤ, pos}
 use lib.ListN.{get_or}
+use Rattle.std.specs.Prelude.{Option}
 use Rattle.asp.specs.Sets.{Set, set_of}
 use Rattle.asp.specs.Literal.{same_ℤ}
 use Rattle.asp.specs.Stable.{is_stable}
 use Rattle.asp.specs.Cost.{cost}
 use Rattle.cores.specs.Judging.{violated_at, first_violated}
-use Rattle.cores.specs.declared.judge.Judged.{Judged}
 use Rattle.advancing.specs.declared.state.Judgement.{Judgement}
 use Rattle.advancing.specs.declared.state.Judgement.TheVariants.{Dead}
 use Rattle.advancing.specs.Source.{Source, rules_in, level_at}
@@ -51,7 +51,7 @@ module _ (S : Source) (level : ℕ) (lowers : List ℤ) (M : Set) where
   class_unstable e q = rw (← e, q)
 
 module _ (S : Source) (q : QueryTables) (ms v : List ℕ) where
-  pub full_soft : {a : Bool} → a ≡ in_class S q.level q.lowers (set_of v) → a ≡ true → {j : Judged} → j ≡ first_violated (violated_at q.judging (set_of v)) (ms ++ q.assumed)
+  pub full_soft : {a : Bool} → a ≡ in_class S q.level q.lowers (set_of v) → a ≡ true → {j : Option ℕ} → j ≡ first_violated (violated_at q.judging (set_of v)) (ms ++ q.assumed)
       → {r : Judgement} → r ≡ soft_or_wanted j → r ≡ judge_full S q ms v
   full_soft e t f g = rw (← e, t, ← f) g
 

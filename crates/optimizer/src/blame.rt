@@ -4,8 +4,6 @@ ghost use Rattle.asp.specs.Sets.{pick};
 ghost use Rattle.asp.specs.Stable.{member};
 ghost use Rattle.advancing.specs.Turn.{blame_tables, blame_entry, blame_place, flagged};
 
-use cores::table::at;
-
 // What is blamed, newest first.
 pub fn blamed(core: &[u16], from: usize) -> &[u16]
     requires { from ≤ length core.now }
@@ -39,7 +37,7 @@ pub fn blame_entry(
         return from;
     }
     flags[i] = 1;
-    add(core, from, narrow(at(places, i)))
+    add(core, from, places[i])
 }
 
 // Whether a place is among those from `from` on.
@@ -48,7 +46,7 @@ fn is_among(places: &[u16], from: usize, p: usize) -> bool
 {
     let mut i = from;
     while i < places.len() {
-        if at(places, i) == p {
+        if usize::from(places[i]) == p {
             return true;
         }
         i += 1;
@@ -73,7 +71,7 @@ fn flag(places: &[u16], p: usize, flags: &mut [u8; 4096])
 {
     let mut i: usize = 0;
     while i < places.len() {
-        flag_at(flags, i, at(places, i), p);
+        flag_at(flags, i, usize::from(places[i]), p);
         i += 1;
     }
 }

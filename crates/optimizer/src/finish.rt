@@ -11,7 +11,6 @@ ghost use Rattle.advancing.specs.Ready.{ReadyCore};
 use advancing::state::{Phase, Turn, Work};
 use asp::figure;
 use cores::level::LevelTables;
-use cores::recording;
 
 // What an end comes to, but for the tables: the phase; the place of the level in work, and whether it is opened; the stratum, if it is not; the best model and its costs.
 #[derive(Clone, Copy)]
@@ -315,8 +314,7 @@ pub fn records(phase: Phase, turn: Turn, t: LevelTables, n: usize) -> bool
     ensures { result ≡ records_of phase turn t n }
 {
     if asks_core(phase, turn) {
-        let ends = t.ends;
-        return recording::has_room(t.count, cores::table::at(&ends, t.cores), n);
+        return t.has_room(n);
     }
     false
 }
@@ -326,8 +324,6 @@ pub fn recorded<'a>(w: Work, core: &'a [u16]) -> Work
     requires { (w.level < 8) × ReadyCore w core.now × (core_fits w.tables.count (held_in w.tables) (length core.now) ≡ true) }
     ensures { result ≡ recorded_work w core.now }
 {
-    let old = w.tables;
-    let t = recording::with_core(old, core, w.stratum);
     let level = w.level;
     let mut lowers = w.lowers;
     lowers[level] = figure::plus(
@@ -335,7 +331,7 @@ pub fn recorded<'a>(w: Work, core: &'a [u16]) -> Work
         figure::natural(w.stratum),
     );
     let mut x = w;
-    x.tables = t;
+    x.tables.record(core, w.stratum);
     x.lowers = lowers;
     x
 }
@@ -355,12 +351,11 @@ pub fn standing(w: Work, e: Ending) -> Work
 }
 
 // The greatest remaining weight below s; 0 if there is none.
-fn next_stratum(t: LevelTables, s: u32) -> u32
-    requires { FormedTables t }
-    ensures { result ≡ under s (level_of t).rests }
+fn next_stratum(t: &LevelTables, s: u32) -> u32
+    requires { FormedTables t.now }
+    ensures { result ≡ under s (level_of t.now).rests }
 {
-    let softs = t.softs;
-    judging::query::stratum_below(softs, t.count, s)
+    judging::query::next_stratum(t.soft_literals(), s)
 }
 
 // The level in work, in emptied tables.
@@ -376,9 +371,9 @@ pub fn begun<'a>(
     ensures { result ≡ begun_at (level_tables levels.now priorities.now literals.now weights.now entrycount) w w.level }
 {
     let p = asp::table::literal_at(levels, w.level);
-    let tables = cores::level::opened(priorities, literals, weights, entrycount, p);
+    let tables = LevelTables::opened(priorities, literals, weights, entrycount, p);
     let mut x = w;
     x.tables = tables;
-    x.stratum = next_stratum(tables, 1000001);
+    x.stratum = next_stratum(&tables, 1000001);
     x
 }

@@ -9,15 +9,15 @@ ghost use Rattle.asp.specs.Paying.{EntriesFormed};
 ghost use Rattle.search.specs.Scan.{rules};
 ghost use Rattle.counting.specs.Counters.{index, counters};
 ghost use Rattle.indexing.specs.Leaf.{Leaf};
-ghost use Rattle.cores.specs.Judging as judged;
+ghost use Rattle.judging.specs.Lent.{tables_of};
 ghost use Rattle.advancing.specs.Source.{level_tables, source};
 ghost use Rattle.advancing.specs.Turn.{query_tables, settled_from, in_class, soft_or_wanted, judge_full};
 
 use advancing::state::Judgement;
 use asp::figure;
-use cores::judge::Judged;
 use counting::counters::Marks;
 use indexing::leaf;
+use judging::judge::Cores;
 
 // Whether the set costs on level l what that is settled at.
 fn is_settled_at<'a>(
@@ -66,12 +66,12 @@ pub fn is_settled<'a>(
 }
 
 // What the first violated soft literal makes of a full trail.
-fn soft_or_wanted(j: Judged) -> Judgement
+fn soft_or_wanted(j: Option<usize>) -> Judgement
     ensures { result ≡ soft_or_wanted j }
 {
     match j {
-        Judged::Met => Judgement::Wanted,
-        Judged::Violated(p) => Judgement::Violated(p),
+        None => Judgement::Wanted,
+        Some(p) => Judgement::Violated(p),
     }
 }
 
@@ -124,11 +124,7 @@ pub fn judge_full<'a>(
     entrycount: usize,
     lowers: &'a [i64; 8],
     assumed: &'a [u16],
-    softs: &'a [i32],
-    cores: &'a [u16],
-    indices: &'a [u16],
-    ends: &'a [u16],
-    members: &'a [u16],
+    cores: &'a Cores<'a>,
     starts: &'a [u16],
     lists: &'a [u16],
     headstarts: &'a [u16],
@@ -139,18 +135,15 @@ pub fn judge_full<'a>(
     m: Marks,
 ) -> Judgement
     requires formed { Formed n pool.now rows.now rulecount × (level ≤ length levels.now) × (level ≤ 8) × EntriesFormed priorities.now literals.now weights.now entrycount × (length value.now ≡ 1025) × (length lowers.now ≡ 8) }
-    requires formed_judging { judged.FormedJudging (judged.judging softs.now cores.now indices.now ends.now members.now) }
-    requires all { All (λ m. m < length softs.now) assumed.now × All (λ m. m < length softs.now) blamed.now }
+    requires all { All (λ m. m < length cores.now.softs.now) assumed.now × All (λ m. m < length cores.now.softs.now) blamed.now }
     requires leaf { Leaf (rules pool.now rows.now rulecount) n (index starts.now lists.now) (index headstarts.now headlists.now) value.now (counters key.now m) }
-    ensures { (ws : List ℤ) (ps : List ℕ) → result ≡ judge_full (source n pool.now rows.now rulecount (level_tables levels.now priorities.now literals.now weights.now entrycount)) (query_tables level lowers.now ws ps assumed.now (judged.judging softs.now cores.now indices.now ends.now members.now)) blamed.now value.now }
+    ensures { (ws : List ℤ) (ps : List ℕ) → result ≡ judge_full (source n pool.now rows.now rulecount (level_tables levels.now priorities.now literals.now weights.now entrycount)) (query_tables level lowers.now ws ps assumed.now (tables_of cores.now)) blamed.now value.now }
 {
     if in_class(
         n, pool, rows, rulecount, levels, level, priorities, literals, weights, entrycount, starts,
         lists, headstarts, headlists, value, key, m, lowers,
     ) {
-        return soft_or_wanted(judging::judge::judge_both(
-            blamed, assumed, softs, cores, indices, ends, members, value,
-        ));
+        return soft_or_wanted(cores.judge_both(blamed, assumed, value));
     }
     Judgement::Dead
 }

@@ -1,10 +1,11 @@
-// Steps of one query: the level's tables are unpacked into columns once, and lent to every step.
+// Steps of one query: the level's tables are lent to every step.
 ghost use Rattle.std.specs.Prelude.{◌≡◌, ◌≤◌, ◌<◌, length};
 ghost use Rattle.search.specs.Places.{places, SoundTrail};
 ghost use Rattle.counting.specs.Counters.{index};
 ghost use Rattle.cores.specs.Level.{under};
 ghost use Rattle.cores.specs.Tables.{level_of, SoundTables};
-ghost use Rattle.cores.specs.Judging.{judging};
+ghost use Rattle.cores.specs.Columns.{rests_of};
+ghost use Rattle.judging.specs.Lent.{tables_of};
 ghost use Rattle.advancing.specs.Source.{level_tables, source, Prepared};
 ghost use Rattle.advancing.specs.Turn.{query_tables, query_by, blame_tables, turned, turns, turns_of};
 ghost use Rattle.advancing.specs.Advance.{work_query};
@@ -13,8 +14,8 @@ ghost use Rattle.advancing.specs.Ready.{ReadyQuery, GoodBlame};
 use crate::turn;
 use crate::turn::Steps;
 use advancing::state::Work;
-use cores::table;
 use indexing::fill;
+use judging::judge::Cores;
 use judging::query;
 
 // What steps came to, and the greatest remaining weight below the stratum.
@@ -40,11 +41,7 @@ fn run_lent<'a>(
     wished: &'a [i32],
     spots: &'a [u16],
     assumed: &'a [u16],
-    softs: &'a [i32],
-    cores: &'a [u16],
-    indices: &'a [u16],
-    ends: &'a [u16],
-    members: &'a [u16],
+    cores: &'a Cores<'a>,
     starts: &'a [u16],
     lists: &'a [u16],
     headstarts: &'a [u16],
@@ -59,22 +56,22 @@ fn run_lent<'a>(
     from: usize,
     budget: u32,
 ) -> Steps
-    requires ready_query { ReadyQuery (source n pool.now rows.now rulecount (level_tables levels.now priorities.now literals.now weights.now entrycount)) (query_tables level lowers.now wished.now spots.now assumed.now (judging softs.now cores.now indices.now ends.now members.now)) }
-    requires good_blame { GoodBlame (query_tables level lowers.now wished.now spots.now assumed.now (judging softs.now cores.now indices.now ends.now members.now)) (blame_tables flags.old core.old from) }
+    requires ready_query { ReadyQuery (source n pool.now rows.now rulecount (level_tables levels.now priorities.now literals.now weights.now entrycount)) (query_tables level lowers.now wished.now spots.now assumed.now (tables_of cores.now)) }
+    requires good_blame { GoodBlame (query_tables level lowers.now wished.now spots.now assumed.now (tables_of cores.now)) (blame_tables flags.old core.old from) }
     requires sound_trail { SoundTrail n (places lits.old marks.old value.old len) }
     requires prepared { Prepared (source n pool.now rows.now rulecount (level_tables levels.now priorities.now literals.now weights.now entrycount)) (index starts.now lists.now) (index headstarts.now headlists.now) tried.now }
-    ensures { turns (turned result.turning.turn (places lits.new marks.new value.new result.turning.len) (blame_tables flags.new core.new result.turning.from)) result.made ≡ turns_of (source n pool.now rows.now rulecount (level_tables levels.now priorities.now literals.now weights.now entrycount)) (query_tables level lowers.now wished.now spots.now assumed.now (judging softs.now cores.now indices.now ends.now members.now)) budget (places lits.old marks.old value.old len) (blame_tables flags.old core.old from) }
+    ensures { turns (turned result.turning.turn (places lits.new marks.new value.new result.turning.len) (blame_tables flags.new core.new result.turning.from)) result.made ≡ turns_of (source n pool.now rows.now rulecount (level_tables levels.now priorities.now literals.now weights.now entrycount)) (query_tables level lowers.now wished.now spots.now assumed.now (tables_of cores.now)) budget (places lits.old marks.old value.old len) (blame_tables flags.old core.old from) }
 {
     let mut key = [0u16; 2048];
     let m = fill::fill(pool, rows, rulecount, starts, lists, value, &mut key);
     turn::turns(
         n, pool, rows, rulecount, levels, priorities, literals, weights, entrycount, level, lowers,
-        tried, wished, spots, assumed, softs, cores, indices, ends, members, starts, lists,
-        headstarts, headlists, lits, marks, value, &mut key, flags, core, len, from, m, budget,
+        tried, wished, spots, assumed, cores, starts, lists, headstarts, headlists, lits, marks,
+        value, &mut key, flags, core, len, from, m, budget,
     )
 }
 
-// Steps by the columns of the level in work.
+// Steps by the soft literals of the level in work.
 fn run_columns<'a>(
     n: usize,
     pool: &'a [i32],
@@ -88,12 +85,7 @@ fn run_columns<'a>(
     level: usize,
     lowers: &'a [i64; 8],
     stratum: u32,
-    softs: &'a [i32],
-    cores: &'a [u16],
-    indices: &'a [u16],
-    rests: &'a [u32],
-    ends: &'a [u16],
-    members: &'a [u16],
+    cores: &'a Cores<'a>,
     starts: &'a [u16],
     lists: &'a [u16],
     headstarts: &'a [u16],
@@ -108,18 +100,18 @@ fn run_columns<'a>(
     from: usize,
     budget: u32,
 ) -> Steps
-    requires ready_query { ReadyQuery (source n pool.now rows.now rulecount (level_tables levels.now priorities.now literals.now weights.now entrycount)) (query_by level lowers.now (judging softs.now cores.now indices.now ends.now members.now) rests.now stratum) }
-    requires good_blame { GoodBlame (query_by level lowers.now (judging softs.now cores.now indices.now ends.now members.now) rests.now stratum) (blame_tables flags.old core.old from) }
+    requires ready_query { ReadyQuery (source n pool.now rows.now rulecount (level_tables levels.now priorities.now literals.now weights.now entrycount)) (query_by level lowers.now (tables_of cores.now) (rests_of cores.now.softs.now) stratum) }
+    requires good_blame { GoodBlame (query_by level lowers.now (tables_of cores.now) (rests_of cores.now.softs.now) stratum) (blame_tables flags.old core.old from) }
     requires sound_trail { SoundTrail n (places lits.old marks.old value.old len) }
-    requires rests_len_bound { (length rests.now ≤ 4096) × (length cores.now ≡ length softs.now) }
+    requires softs_few { length cores.now.softs.now ≤ 4096 }
     requires prepared { Prepared (source n pool.now rows.now rulecount (level_tables levels.now priorities.now literals.now weights.now entrycount)) (index starts.now lists.now) (index headstarts.now headlists.now) tried.now }
-    ensures { turns (turned result.turning.turn (places lits.new marks.new value.new result.turning.len) (blame_tables flags.new core.new result.turning.from)) result.made ≡ turns_of (source n pool.now rows.now rulecount (level_tables levels.now priorities.now literals.now weights.now entrycount)) (query_by level lowers.now (judging softs.now cores.now indices.now ends.now members.now) rests.now stratum) budget (places lits.old marks.old value.old len) (blame_tables flags.old core.old from) }
+    ensures { turns (turned result.turning.turn (places lits.new marks.new value.new result.turning.len) (blame_tables flags.new core.new result.turning.from)) result.made ≡ turns_of (source n pool.now rows.now rulecount (level_tables levels.now priorities.now literals.now weights.now entrycount)) (query_by level lowers.now (tables_of cores.now) (rests_of cores.now.softs.now) stratum) budget (places lits.old marks.old value.old len) (blame_tables flags.old core.old from) }
 {
     let mut assumed = [0u16; 4096];
     let mut spots = [0u16; 4096];
     let mut wished = [0i32; 4096];
-    let m = query::assumed(rests, stratum, &mut assumed);
-    let k = query::entries(&assumed[..m], cores, softs, &mut spots, &mut wished);
+    let m = query::assumed(cores.softs, stratum, &mut assumed);
+    let k = query::entries(&assumed[..m], cores.softs, &mut spots, &mut wished);
     run_lent(
         n,
         pool,
@@ -135,11 +127,7 @@ fn run_columns<'a>(
         &wished[..k],
         &spots[..k],
         &assumed[..m],
-        softs,
         cores,
-        indices,
-        ends,
-        members,
         starts,
         lists,
         headstarts,
@@ -189,53 +177,14 @@ pub fn run_query<'a>(
     requires prepared { Prepared (source n pool.now rows.now rulecount (level_tables levels.now priorities.now literals.now weights.now entrycount)) (index starts.now lists.now) (index headstarts.now headlists.now) tried.now }
     ensures { (turns (turned result.steps.turning.turn (places lits.new marks.new value.new result.steps.turning.len) (blame_tables flags.new core.new result.steps.turning.from)) result.steps.made ≡ turns_of (source n pool.now rows.now rulecount (level_tables levels.now priorities.now literals.now weights.now entrycount)) (work_query w) budget (places lits.old marks.old value.old len) (blame_tables flags.old core.old from)) × (result.below ≡ under w.stratum (level_of w.tables).rests) }
 {
-    let mut softs = [0i32; 4096];
-    let mut cores = [0u16; 4096];
-    let mut indices = [0u16; 4096];
-    let mut rests = [0u32; 4096];
-    let t = w.tables;
-    let count = t.count;
-    let all = t.softs;
-    query::unpack(all, count, &mut softs, &mut cores, &mut indices, &mut rests);
+    let cores = Cores::of(&w.tables);
     let lowers = w.lowers;
-    let ends = t.ends;
-    let members = t.members;
-    let k = t.cores;
-    let held = table::at(&ends, k);
     let steps = run_columns(
-        n,
-        pool,
-        rows,
-        rulecount,
-        levels,
-        priorities,
-        literals,
-        weights,
-        entrycount,
-        w.level,
-        &lowers,
-        w.stratum,
-        &softs[..count],
-        &cores[..count],
-        &indices[..count],
-        &rests[..count],
-        &ends[..k + 1],
-        &members[..held],
-        starts,
-        lists,
-        headstarts,
-        headlists,
-        tried,
-        lits,
-        marks,
-        value,
-        flags,
-        core,
-        len,
-        from,
-        budget,
+        n, pool, rows, rulecount, levels, priorities, literals, weights, entrycount, w.level,
+        &lowers, w.stratum, &cores, starts, lists, headstarts, headlists, tried, lits, marks,
+        value, flags, core, len, from, budget,
     );
-    let below = query::next_stratum(&rests[..count], w.stratum);
+    let below = query::next_stratum(cores.softs, w.stratum);
     Asked {
         steps: steps,
         below: below,

@@ -11,6 +11,7 @@ ghost use Rattle.advancing.specs.Run.{after_run, Reached, run_of};
 use crate::{blame, finish, query, turn};
 use advancing::state;
 use advancing::state::{Blame, Phase, Search, Work};
+use cores::level::LevelTables;
 use search::trail::Places;
 
 fn fresh_blame() -> Blame
@@ -104,7 +105,7 @@ pub fn run<'a>(
     let mut work = start.work;
     let mut made: u32 = 0;
     while made < budget {
-        if !state::is_running(phase) {
+        if !phase.is_running() {
             return stopped(
                 phase, advances, lits, marks, value, len, flags, core, from, work, made,
             );
@@ -214,7 +215,7 @@ fn fresh_over(lowers: [i64; 8]) -> Search
         blame: fresh_blame(),
         work: Work {
             level: 0,
-            tables: cores::level::empty(),
+            tables: LevelTables::empty(),
             stratum: 0,
             lowers: lowers,
             uppers: [0; 8],

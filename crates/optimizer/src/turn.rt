@@ -4,7 +4,7 @@ ghost use Rattle.search.specs.Places.{places, SoundTrail};
 ghost use Rattle.search.specs.Scan.{rules};
 ghost use Rattle.counting.specs.Counters.{index, counters};
 ghost use Rattle.indexing.specs.Leaf.{Leaf, Equipped};
-ghost use Rattle.cores.specs.Judging.{judging};
+ghost use Rattle.judging.specs.Lent.{tables_of};
 ghost use Rattle.advancing.specs.Source.{level_tables, source, Tries};
 ghost use Rattle.advancing.specs.Turn.{query_tables, blame_tables, turned, turn_of, turns, turns_of, judged_turn, judge_full, blamed_of, is_going};
 ghost use Rattle.advancing.specs.Ready.{ReadyQuery, GoodBlame};
@@ -14,6 +14,7 @@ use crate::{blame, judge};
 use advancing::state::{Judgement, Turn};
 use counting::counters::Marks;
 use indexing::machine;
+use judging::judge::Cores;
 use search::step::Tested;
 
 // What a step came to, with the trail's length and the first blamed place after it.
@@ -65,11 +66,7 @@ fn judged<'a>(
     wished: &'a [i32],
     spots: &'a [u16],
     assumed: &'a [u16],
-    softs: &'a [i32],
-    cores: &'a [u16],
-    indices: &'a [u16],
-    ends: &'a [u16],
-    members: &'a [u16],
+    cores: &'a Cores<'a>,
     starts: &'a [u16],
     lists: &'a [u16],
     headstarts: &'a [u16],
@@ -84,11 +81,11 @@ fn judged<'a>(
     from: usize,
     m: Marks,
 ) -> Tracked
-    requires ready_query { ReadyQuery (source n pool.now rows.now rulecount (level_tables levels.now priorities.now literals.now weights.now entrycount)) (query_tables level lowers.now wished.now spots.now assumed.now (judging softs.now cores.now indices.now ends.now members.now)) }
-    requires good_blame { GoodBlame (query_tables level lowers.now wished.now spots.now assumed.now (judging softs.now cores.now indices.now ends.now members.now)) (blame_tables flags.old core.old from) }
+    requires ready_query { ReadyQuery (source n pool.now rows.now rulecount (level_tables levels.now priorities.now literals.now weights.now entrycount)) (query_tables level lowers.now wished.now spots.now assumed.now (tables_of cores.now)) }
+    requires good_blame { GoodBlame (query_tables level lowers.now wished.now spots.now assumed.now (tables_of cores.now)) (blame_tables flags.old core.old from) }
     requires sound_trail { SoundTrail n (places lits.old marks.old value.old len) }
     requires leaf { Leaf (rules pool.now rows.now rulecount) n (index starts.now lists.now) (index headstarts.now headlists.now) value.old (counters key.old m) }
-    ensures { (turned result.turning.turn (places lits.new marks.new value.new result.turning.len) (blame_tables flags.new core.new result.turning.from) ≡ judged_turn (query_tables level lowers.now wished.now spots.now assumed.now (judging softs.now cores.now indices.now ends.now members.now)) (places lits.old marks.old value.old len) (blame_tables flags.old core.old from) (judge_full (source n pool.now rows.now rulecount (level_tables levels.now priorities.now literals.now weights.now entrycount)) (query_tables level lowers.now wished.now spots.now assumed.now (judging softs.now cores.now indices.now ends.now members.now)) (blamed_of (blame_tables flags.old core.old from)) value.old)) × Equipped (rules pool.now rows.now rulecount) (index starts.now lists.now) (index headstarts.now headlists.now) value.new (counters key.new result.marks) }
+    ensures { (turned result.turning.turn (places lits.new marks.new value.new result.turning.len) (blame_tables flags.new core.new result.turning.from) ≡ judged_turn (query_tables level lowers.now wished.now spots.now assumed.now (tables_of cores.now)) (places lits.old marks.old value.old len) (blame_tables flags.old core.old from) (judge_full (source n pool.now rows.now rulecount (level_tables levels.now priorities.now literals.now weights.now entrycount)) (query_tables level lowers.now wished.now spots.now assumed.now (tables_of cores.now)) (blamed_of (blame_tables flags.old core.old from)) value.old)) × Equipped (rules pool.now rows.now rulecount) (index starts.now lists.now) (index headstarts.now headlists.now) value.new (counters key.new result.marks) }
 {
     let j = judge::judge_full(
         n,
@@ -103,11 +100,7 @@ fn judged<'a>(
         entrycount,
         lowers,
         assumed,
-        softs,
         cores,
-        indices,
-        ends,
-        members,
         starts,
         lists,
         headstarts,
@@ -171,11 +164,7 @@ pub fn turn<'a>(
     wished: &'a [i32],
     spots: &'a [u16],
     assumed: &'a [u16],
-    softs: &'a [i32],
-    cores: &'a [u16],
-    indices: &'a [u16],
-    ends: &'a [u16],
-    members: &'a [u16],
+    cores: &'a Cores<'a>,
     starts: &'a [u16],
     lists: &'a [u16],
     headstarts: &'a [u16],
@@ -190,12 +179,12 @@ pub fn turn<'a>(
     from: usize,
     m: Marks,
 ) -> Tracked
-    requires ready_query { ReadyQuery (source n pool.now rows.now rulecount (level_tables levels.now priorities.now literals.now weights.now entrycount)) (query_tables level lowers.now wished.now spots.now assumed.now (judging softs.now cores.now indices.now ends.now members.now)) }
-    requires good_blame { GoodBlame (query_tables level lowers.now wished.now spots.now assumed.now (judging softs.now cores.now indices.now ends.now members.now)) (blame_tables flags.old core.old from) }
+    requires ready_query { ReadyQuery (source n pool.now rows.now rulecount (level_tables levels.now priorities.now literals.now weights.now entrycount)) (query_tables level lowers.now wished.now spots.now assumed.now (tables_of cores.now)) }
+    requires good_blame { GoodBlame (query_tables level lowers.now wished.now spots.now assumed.now (tables_of cores.now)) (blame_tables flags.old core.old from) }
     requires sound_trail { SoundTrail n (places lits.old marks.old value.old len) }
     requires equipped { Equipped (rules pool.now rows.now rulecount) (index starts.now lists.now) (index headstarts.now headlists.now) value.old (counters key.old m) }
     requires tries { Tries (source n pool.now rows.now rulecount (level_tables levels.now priorities.now literals.now weights.now entrycount)) tried.now }
-    ensures { (turned result.turning.turn (places lits.new marks.new value.new result.turning.len) (blame_tables flags.new core.new result.turning.from) ≡ turn_of (source n pool.now rows.now rulecount (level_tables levels.now priorities.now literals.now weights.now entrycount)) (query_tables level lowers.now wished.now spots.now assumed.now (judging softs.now cores.now indices.now ends.now members.now)) (places lits.old marks.old value.old len) (blame_tables flags.old core.old from)) × Equipped (rules pool.now rows.now rulecount) (index starts.now lists.now) (index headstarts.now headlists.now) value.new (counters key.new result.marks) }
+    ensures { (turned result.turning.turn (places lits.new marks.new value.new result.turning.len) (blame_tables flags.new core.new result.turning.from) ≡ turn_of (source n pool.now rows.now rulecount (level_tables levels.now priorities.now literals.now weights.now entrycount)) (query_tables level lowers.now wished.now spots.now assumed.now (tables_of cores.now)) (places lits.old marks.old value.old len) (blame_tables flags.old core.old from)) × Equipped (rules pool.now rows.now rulecount) (index starts.now lists.now) (index headstarts.now headlists.now) value.new (counters key.new result.marks) }
 {
     let o = machine::step(
         pool,
@@ -246,8 +235,8 @@ pub fn turn<'a>(
         },
         Tested::Full => judged(
             n, pool, rows, rulecount, levels, priorities, literals, weights, entrycount, level,
-            lowers, wished, spots, assumed, softs, cores, indices, ends, members, starts, lists,
-            headstarts, headlists, lits, marks, value, key, flags, core, k, from, q,
+            lowers, wished, spots, assumed, cores, starts, lists, headstarts, headlists, lits,
+            marks, value, key, flags, core, k, from, q,
         ),
     }
 }
@@ -276,11 +265,7 @@ pub fn turns<'a>(
     wished: &'a [i32],
     spots: &'a [u16],
     assumed: &'a [u16],
-    softs: &'a [i32],
-    cores: &'a [u16],
-    indices: &'a [u16],
-    ends: &'a [u16],
-    members: &'a [u16],
+    cores: &'a Cores<'a>,
     starts: &'a [u16],
     lists: &'a [u16],
     headstarts: &'a [u16],
@@ -296,12 +281,12 @@ pub fn turns<'a>(
     m: Marks,
     budget: u32,
 ) -> Steps
-    requires ready_query { ReadyQuery (source n pool.now rows.now rulecount (level_tables levels.now priorities.now literals.now weights.now entrycount)) (query_tables level lowers.now wished.now spots.now assumed.now (judging softs.now cores.now indices.now ends.now members.now)) }
-    requires good_blame { GoodBlame (query_tables level lowers.now wished.now spots.now assumed.now (judging softs.now cores.now indices.now ends.now members.now)) (blame_tables flags.old core.old first) }
+    requires ready_query { ReadyQuery (source n pool.now rows.now rulecount (level_tables levels.now priorities.now literals.now weights.now entrycount)) (query_tables level lowers.now wished.now spots.now assumed.now (tables_of cores.now)) }
+    requires good_blame { GoodBlame (query_tables level lowers.now wished.now spots.now assumed.now (tables_of cores.now)) (blame_tables flags.old core.old first) }
     requires sound_trail { SoundTrail n (places lits.old marks.old value.old start) }
     requires equipped { Equipped (rules pool.now rows.now rulecount) (index starts.now lists.now) (index headstarts.now headlists.now) value.old (counters key.old m) }
     requires tries { Tries (source n pool.now rows.now rulecount (level_tables levels.now priorities.now literals.now weights.now entrycount)) tried.now }
-    ensures { turns (turned result.turning.turn (places lits.new marks.new value.new result.turning.len) (blame_tables flags.new core.new result.turning.from)) result.made ≡ turns_of (source n pool.now rows.now rulecount (level_tables levels.now priorities.now literals.now weights.now entrycount)) (query_tables level lowers.now wished.now spots.now assumed.now (judging softs.now cores.now indices.now ends.now members.now)) budget (places lits.old marks.old value.old start) (blame_tables flags.old core.old first) }
+    ensures { turns (turned result.turning.turn (places lits.new marks.new value.new result.turning.len) (blame_tables flags.new core.new result.turning.from)) result.made ≡ turns_of (source n pool.now rows.now rulecount (level_tables levels.now priorities.now literals.now weights.now entrycount)) (query_tables level lowers.now wished.now spots.now assumed.now (tables_of cores.now)) budget (places lits.old marks.old value.old start) (blame_tables flags.old core.old first) }
 {
     let mut len = start;
     let mut from = first;
@@ -310,8 +295,8 @@ pub fn turns<'a>(
     while made < budget {
         let x = turn(
             n, pool, rows, rulecount, levels, priorities, literals, weights, entrycount, level,
-            lowers, tried, wished, spots, assumed, softs, cores, indices, ends, members, starts,
-            lists, headstarts, headlists, lits, marks, value, key, flags, core, len, from, at,
+            lowers, tried, wished, spots, assumed, cores, starts, lists, headstarts, headlists,
+            lits, marks, value, key, flags, core, len, from, at,
         );
         let r = x.turning;
         made += 1;

@@ -1,10 +1,5 @@
-use Prim.Native.Nat.{◌-◌, ◌≤◌}
-use lib.ListN.{length}
-use Rattle.cores_script.specs.World.{Fine}
+use Rattle.std.proofs.Common.{length}
 use Rattle.cores_script.proofs.play.Given as goal
 
-abbrev pub invariant-loop-at : goal.invariant-loop-at
-invariant-loop-at g l = Fine l.w × (l.at ≤ length l.text)
-
-abbrev pub decreases-loop-at : goal.decreases-loop-at
-decreases-loop-at g l = length l.text - l.at
+abbrev pub decreases-loop-op : goal.decreases-loop-op
+decreases-loop-op g l = length l.script.rest.now

@@ -1,9 +1,9 @@
-use borrow.Author.Rules.{rules}
+use Rattle.std.proofs.Common.{arith, refl}
 use Rattle.cores.proofs.Queries.{pair_next, pair_end}
 use Rattle.judging.proofs.query.entries.Goals as goal
 
-pub loop-i-preserved : goal.loop-i-preserved
-loop-i-preserved c = search (pair_next, rules)
+pub loop-p-preserved : goal.loop-p-preserved
+loop-p-preserved c = pair_next c.loop-p.invariant (omega arith) refl c.put_entry-n.ensures
 
 pub returns : goal.returns
-returns c = search (pair_end, rules)
+returns c = pair_end c.loop-p.invariant (omega arith)

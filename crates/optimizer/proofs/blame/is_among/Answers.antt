@@ -2,11 +2,11 @@ use borrow.Author.Rules.{rules}
 use Rattle.optimizer.proofs.Blaming.{among_here, among_next, among_done}
 use Rattle.optimizer.proofs.blame.is_among.Goals as goal
 
-pub returns-then-at-p : goal.returns-then-at-p
-returns-then-at-p c = search (among_here, rules)
+pub returns-then-from-p : goal.returns-then-from-p
+returns-then-from-p c = search (among_here, rules)
 
 pub loop-i-preserved : goal.loop-i-preserved
-loop-i-preserved c = among_next c.loop-i.invariant c.loop-i-test.true c.at.ensures c.if-at-p.false
+loop-i-preserved c = among_next c.loop-i.invariant c.loop-i-test.true c.from.ensures c.if-from-p.false
 
 pub returns : goal.returns
 returns c = search (among_done, rules)

@@ -5,7 +5,7 @@ use lib.ListN.{length, get_or}
 use Rattle.search.specs.Places.{places}
 use Rattle.search.specs.Step.{Stepped}
 use Rattle.search.proofs.Kept.{after_step}
-use Rattle.cores.specs.Judging.{judging}
+use Rattle.judging.specs.Lent.{tables_of}
 use Rattle.advancing.specs.Source.{source, level_tables}
 use Rattle.advancing.specs.Turn.{query_tables, blame_tables, assumed_by}
 use Rattle.advancing.specs.Ready.{softs}
@@ -17,7 +17,7 @@ use Rattle.optimizer.proofs.turn.turn.Goals as goal
 pub blame_entry-f-requires : goal.blame_entry-f-requires
 blame_entry-f-requires c =
     let S = source c.args.n c.args.pool.now c.args.rows.now c.args.rulecount (level_tables c.args.levels.now c.args.priorities.now c.args.literals.now c.args.weights.now c.args.entrycount) in
-    let Q = query_tables c.args.level c.args.lowers.now c.args.wished.now c.args.spots.now c.args.assumed.now (judging c.args.softs.now c.args.cores.now c.args.indices.now c.args.ends.now c.args.members.now) in
+    let Q = query_tables c.args.level c.args.lowers.now c.args.wished.now c.args.spots.now c.args.assumed.now (tables_of c.args.cores.now) in
     let P = places c.args.lits.now c.args.marks.now c.args.value.now c.args.len in
     let A = blame_tables c.args.flags.now c.args.core.now c.args.from in
     let r = c.requires.ready_query in
@@ -30,7 +30,7 @@ blame_entry-f-requires c =
 pub judged-requires-clause-leaf : goal.judged-requires-clause-leaf
 judged-requires-clause-leaf c =
     let S = source c.args.n c.args.pool.now c.args.rows.now c.args.rulecount (level_tables c.args.levels.now c.args.priorities.now c.args.literals.now c.args.weights.now c.args.entrycount) in
-    let Q = query_tables c.args.level c.args.lowers.now c.args.wished.now c.args.spots.now c.args.assumed.now (judging c.args.softs.now c.args.cores.now c.args.indices.now c.args.ends.now c.args.members.now) in
+    let Q = query_tables c.args.level c.args.lowers.now c.args.wished.now c.args.spots.now c.args.assumed.now (tables_of c.args.cores.now) in
     let P = places c.args.lits.now c.args.marks.now c.args.value.now c.args.len in
     let A = blame_tables c.args.flags.now c.args.core.now c.args.from in
     let o = c.step-o in
@@ -40,7 +40,7 @@ judged-requires-clause-leaf c =
 pub returns-in-RuleBroken : goal.returns-in-RuleBroken
 returns-in-RuleBroken c =
     let S = source c.args.n c.args.pool.now c.args.rows.now c.args.rulecount (level_tables c.args.levels.now c.args.priorities.now c.args.literals.now c.args.weights.now c.args.entrycount) in
-    let Q = query_tables c.args.level c.args.lowers.now c.args.wished.now c.args.spots.now c.args.assumed.now (judging c.args.softs.now c.args.cores.now c.args.indices.now c.args.ends.now c.args.members.now) in
+    let Q = query_tables c.args.level c.args.lowers.now c.args.wished.now c.args.spots.now c.args.assumed.now (tables_of c.args.cores.now) in
     let P = places c.args.lits.now c.args.marks.now c.args.value.now c.args.len in
     let A = blame_tables c.args.flags.now c.args.core.now c.args.from in
     let o = c.step-o in (
@@ -52,7 +52,7 @@ returns-in-RuleBroken c =
 pub returns-in-SoftViolated : goal.returns-in-SoftViolated
 returns-in-SoftViolated c =
     let S = source c.args.n c.args.pool.now c.args.rows.now c.args.rulecount (level_tables c.args.levels.now c.args.priorities.now c.args.literals.now c.args.weights.now c.args.entrycount) in
-    let Q = query_tables c.args.level c.args.lowers.now c.args.wished.now c.args.spots.now c.args.assumed.now (judging c.args.softs.now c.args.cores.now c.args.indices.now c.args.ends.now c.args.members.now) in
+    let Q = query_tables c.args.level c.args.lowers.now c.args.wished.now c.args.spots.now c.args.assumed.now (tables_of c.args.cores.now) in
     let P = places c.args.lits.now c.args.marks.now c.args.value.now c.args.len in
     let A = blame_tables c.args.flags.now c.args.core.now c.args.from in
     let o = c.step-o in
@@ -65,7 +65,7 @@ returns-in-SoftViolated c =
 pub returns-in-Open : goal.returns-in-Open
 returns-in-Open c =
     let S = source c.args.n c.args.pool.now c.args.rows.now c.args.rulecount (level_tables c.args.levels.now c.args.priorities.now c.args.literals.now c.args.weights.now c.args.entrycount) in
-    let Q = query_tables c.args.level c.args.lowers.now c.args.wished.now c.args.spots.now c.args.assumed.now (judging c.args.softs.now c.args.cores.now c.args.indices.now c.args.ends.now c.args.members.now) in
+    let Q = query_tables c.args.level c.args.lowers.now c.args.wished.now c.args.spots.now c.args.assumed.now (tables_of c.args.cores.now) in
     let P = places c.args.lits.now c.args.marks.now c.args.value.now c.args.len in
     let A = blame_tables c.args.flags.now c.args.core.now c.args.from in
     (turn_open S Q P A (step_by S Q P A c.requires.tries c.step-o.ensures.0) c.in-Open.is, c.step-o.ensures.1)
@@ -73,7 +73,7 @@ returns-in-Open c =
 pub returns-in-Full : goal.returns-in-Full
 returns-in-Full c =
     let S = source c.args.n c.args.pool.now c.args.rows.now c.args.rulecount (level_tables c.args.levels.now c.args.priorities.now c.args.literals.now c.args.weights.now c.args.entrycount) in
-    let Q = query_tables c.args.level c.args.lowers.now c.args.wished.now c.args.spots.now c.args.assumed.now (judging c.args.softs.now c.args.cores.now c.args.indices.now c.args.ends.now c.args.members.now) in
+    let Q = query_tables c.args.level c.args.lowers.now c.args.wished.now c.args.spots.now c.args.assumed.now (tables_of c.args.cores.now) in
     let P = places c.args.lits.now c.args.marks.now c.args.value.now c.args.len in
     let A = blame_tables c.args.flags.now c.args.core.now c.args.from in
     (turn_full S Q P A (step_by S Q P A c.requires.tries c.step-o.ensures.0) c.in-Full.is c.judged.ensures.0, c.judged.ensures.1)

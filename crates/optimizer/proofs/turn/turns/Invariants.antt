@@ -2,7 +2,7 @@ use Prim.Native.Nat.{◌-◌}
 use Rattle.search.specs.Places.{places}
 use Rattle.search.specs.Scan.{rules}
 use Rattle.counting.specs.Counters.{index, counters}
-use Rattle.cores.specs.Judging.{judging}
+use Rattle.judging.specs.Lent.{tables_of}
 use Rattle.advancing.specs.Source.{source, level_tables}
 use Rattle.advancing.specs.Turn.{query_tables, blame_tables}
 use Rattle.optimizer.proofs.Turning.{TrackedOn, Turned-on}
@@ -10,7 +10,7 @@ use Rattle.optimizer.proofs.turn.turns.Given as goal
 
 abbrev pub invariant-loop-made : goal.invariant-loop-made
 invariant-loop-made l = TrackedOn (rules l.pool l.rows l.rulecount) (index l.starts l.lists) (index l.headstarts l.headlists) l.value (counters l.key l.at) (Turned-on (source l.n l.pool l.rows l.rulecount (level_tables l.levels l.priorities l.literals l.weights l.entrycount))
-    (query_tables l.level l.lowers l.wished l.spots l.assumed (judging l.softs l.cores l.indices l.ends l.members)) l.budget (places l.initial.lits l.initial.marks l.initial.value l.start) (blame_tables l.initial.flags l.initial.core l.first) (places l.lits l.marks l.value l.len)
+    (query_tables l.level l.lowers l.wished l.spots l.assumed (tables_of l.cores)) l.budget (places l.initial.lits l.initial.marks l.initial.value l.start) (blame_tables l.initial.flags l.initial.core l.first) (places l.lits l.marks l.value l.len)
     (blame_tables l.flags l.core l.from) l.made)
 
 abbrev pub decreases-loop-made : goal.decreases-loop-made
