@@ -13,17 +13,18 @@ use lib.ListN.{length, get_or, set, take, drop, length-set, drop_of_length-le}
 use lib.Seq.{drop-cons, sets}
 use borrow.Rule.Slice.PartMut.{put_mid}
 use Rattle.std.proofs.Common.{append_assoc, drop-drop}
+use Rattle.std.proofs.lemmas.List.{at_drop_more, at_drop_all}
 use Rattle.std.proofs.lemmas.List.Edits.{sets-eq}
 use Rattle.asp.specs.declared.entries.Entry.{Entry}
 use Rattle.asp.specs.Sets.{pick}
 use Rattle.asp.specs.Literal.{same_ℤ}
 use Rattle.asp.specs.Cost.{level}
 use Rattle.asp.specs.Penalty.{Penalty, paid_literal, penalties}
-use Rattle.asp.specs.Tables.{span, entry_at, entries_of}
+use Rattle.asp.specs.Tables.{no_entry, entry_at}
 use Rattle.cores.specs.declared.soft.Soft.{Soft}
 use Rattle.cores.specs.declared.level.LevelTables.{LevelTables}
 use Rattle.cores.specs.Level.{weighty, core_fits}
-use Rattle.cores.specs.Tables.{no_soft, entry_soft, core_soft, lighter_by, lighten, new_softs, softs_of, opened_tables, counts_at, soft_at, held_in, Counted, Room}
+use Rattle.cores.specs.Tables.{no_soft, entry_soft, core_soft, lighter_by, lighten, new_softs, softs_of, opened_tables, weighs_on, soft_of, held_in, Counted, Room}
 
 -- ---- a free place
 
@@ -119,19 +120,15 @@ opened_from t k es = record {
   lower = t.lower;
 }
 
-module _ (ps ls ws : List ℤ) (n : ℕ) (q : ℤ) where
+module _ (es : List Entry) (q : ℤ) where
   pub record Opening (t : LevelTables) (i : ℕ) : Type 0 where
-    pub below : i ≤ n
     pub few : t.count ≤ i
-    pub rest : opened_from t t.count (penalties (level q (span (entry_at ps ls ws) i (n - i)))) ≡ opened_tables (penalties (level q (entries_of ps ls ws n)))
+    pub rest : opened_from t t.count (penalties (level q (drop i es))) ≡ opened_tables (penalties (level q es))
 
-  softs_next : (i m : ℕ) → n - i ≡ suc m
-      → softs_of (penalties (level q (span (entry_at ps ls ws) i (n - i))))
-      ≡ pick (counts_at ps ws i q) (soft_at ls ws i ∷ softs_of (penalties (level q (span (entry_at ps ls ws) (i + 1) (n - (i + 1)))))) (softs_of (penalties (level q (span (entry_at ps ls ws) (i + 1) (n - (i + 1))))))
-  unfolding span
-  softs_next i m e =
-      let f : n - (i + 1) ≡ m = omega arith in
-      rw (e, f) (softs_cons q (entry_at ps ls ws i) (span (entry_at ps ls ws) (i + 1) m))
+  softs_next : (i : ℕ) → i < length es
+      → softs_of (penalties (level q (drop i es)))
+      ≡ pick (weighs_on q (entry_at es i)) (soft_of (entry_at es i) ∷ softs_of (penalties (level q (drop (i + 1) es)))) (softs_of (penalties (level q (drop (i + 1) es))))
+  softs_next i h = at_drop_more (λ (xs : List Entry). softs_of (penalties (level q xs))) es i no_entry h ∙ softs_cons q (entry_at es i) (drop (i + 1) es)
 
 -- a soft literal is put at k
 abbrev put_soft : LevelTables → ℕ → Soft → LevelTables
@@ -151,38 +148,30 @@ from_none : (t : LevelTables) (k : ℕ) → opened_from t k [] ≡ record { soft
 unfolding weighty
 from_none t k = ap (λ (a : ℕ). record { softs = t.softs; members = t.members; ends = t.ends; count = a; cores = t.cores; lower = t.lower }) (add-zero k)
 
-module _ {ps ls ws : List ℤ} {n : ℕ} {q : ℤ} {t : LevelTables} {i : ℕ} where
-  pub open_put : Opening ps ls ws n q t i → i < n → {b : Bool} → b ≡ counts_at ps ws i q → b ≡ true
-      → {x : Soft} → x ≡ soft_at ls ws i → {t₁ : LevelTables} → t₁ ≡ put_soft t t.count x → Opening ps ls ws n q t₁ (i + 1)
-  open_put o h {b} e y {x} f et = rw et (record {
-    below = omega arith;
+module _ {es : List Entry} {q : ℤ} {t : LevelTables} {i : ℕ} where
+  pub open_put : Opening es q t i → i < length es → weighs_on q (entry_at es i) ≡ true
+      → {x : Soft} → x ≡ soft_of (entry_at es i) → {t₁ : LevelTables} → t₁ ≡ put_soft t t.count x → Opening es q t₁ (i + 1)
+  open_put o h c {x} f et = rw et (record {
     few = omega (arith, o.few);
-    rest =
-        let c : counts_at ps ws i q ≡ true = sym e ∙ y in
-        let g = rw c at (softs_next ps ls ws n q i (n - (i + 1)) (omega arith)) in
-        sym (from_put t t.count x _ _ (rw f g)) ∙ o.rest;
+    rest = let g = rw c at (softs_next es q i h) in sym (from_put t t.count x _ _ (rw f g)) ∙ o.rest;
   })
 
   -- the same, from what the call that puts it says of the table
-  pub open_put_at : Opening ps ls ws n q t i → i < n → {b : Bool} → b ≡ counts_at ps ws i q → b ≡ true
-      → {x : Soft} → x ≡ soft_at ls ws i → {xs : List Soft} → xs ≡ set t.softs t.count x
-      → {t₁ : LevelTables} → t₁ ≡ record { softs = xs; members = t.members; ends = t.ends; count = t.count + 1; cores = t.cores; lower = t.lower } → Opening ps ls ws n q t₁ (i + 1)
-  open_put_at o h e y f ex et = open_put o h e y f (rw ex at et)
+  pub open_put_at : Opening es q t i → i < length es → weighs_on q (entry_at es i) ≡ true
+      → {x : Soft} → x ≡ soft_of (entry_at es i) → {xs : List Soft} → xs ≡ set t.softs t.count x
+      → {t₁ : LevelTables} → t₁ ≡ record { softs = xs; members = t.members; ends = t.ends; count = t.count + 1; cores = t.cores; lower = t.lower } → Opening es q t₁ (i + 1)
+  open_put_at o h c f ex et = open_put o h c f (rw ex at et)
 
-  pub open_skip : Opening ps ls ws n q t i → i < n → {b : Bool} → b ≡ counts_at ps ws i q → b ≡ false
-      → {t₁ : LevelTables} → t₁ ≡ t → Opening ps ls ws n q t₁ (i + 1)
-  open_skip o h {b} e y et = rw et (record {
-    below = omega arith;
+  pub open_skip : Opening es q t i → i < length es → weighs_on q (entry_at es i) ≡ false
+      → {t₁ : LevelTables} → t₁ ≡ t → Opening es q t₁ (i + 1)
+  open_skip o h c et = rw et (record {
     few = omega (arith, o.few);
-    rest =
-        let c : counts_at ps ws i q ≡ false = sym e ∙ y in
-        let g = rw c at (softs_next ps ls ws n q i (n - (i + 1)) (omega arith)) in
-        sym (from_skip t t.count _ _ g) ∙ o.rest;
+    rest = let g = rw c at (softs_next es q i h) in sym (from_skip t t.count _ _ g) ∙ o.rest;
   })
 
-  pub open_stop : Opening ps ls ws n q t i → n ≤ i → t ≡ opened_tables (penalties (level q (entries_of ps ls ws n)))
-  unfolding span level
-  open_stop o h = let e : n - i ≡ 0 = omega arith in sym (from_none t t.count) ∙ (rw e at o.rest)
+  pub open_stop : Opening es q t i → length es ≤ i → t ≡ opened_tables (penalties (level q es))
+  unfolding level
+  open_stop o h = sym (from_none t t.count) ∙ (rw (at_drop_all (λ (xs : List Entry). opened_from t t.count (penalties (level q xs))) es i h) at o.rest)
 
 -- ---- recording a core: whether there is room
 

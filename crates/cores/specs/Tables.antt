@@ -5,6 +5,7 @@ use Rattle.asp.specs.Literal.{same_ℤ}
 use Rattle.std.proofs.lemmas.List.Edits.{sets}
 use Rattle.asp.specs.Program.{Literal, All}
 use Rattle.asp.specs.Penalty.{Penalty, paid_literal}
+use Rattle.asp.specs.declared.entries.Entry.{Entry}
 use Rattle.asp.specs.Tables.{span}
 use Rattle.cores.specs.declared.soft.Soft.{Soft}
 use Rattle.cores.specs.declared.level.LevelTables.{LevelTables}
@@ -43,13 +44,13 @@ opened_tables es = record {
   lower = 0;
 }
 
--- entry i is of the level of a priority, with a weight that is not 0
-abbrev pub counts_at : List ℤ → List ℤ → ℕ → ℤ → Bool
-counts_at priorities weights i q = same_ℤ q (get_or priorities i (pos 0)) && ltb 0 (nat_abs (get_or weights i (pos 0)))
+-- an entry is of the level of a priority, with a weight that is not 0
+abbrev pub weighs_on : ℤ → Entry → Bool
+weighs_on q e = same_ℤ q e.priority && ltb 0 (nat_abs e.weight)
 
--- the soft literal of entry i, which its penalty's literal violates
-abbrev pub soft_at : List ℤ → List ℤ → ℕ → Soft
-soft_at literals weights i = entry_soft (paid_literal (get_or literals i (pos 0)) (get_or weights i (pos 0))) (nat_abs (get_or weights i (pos 0)))
+-- the soft literal of an entry, which its penalty's literal violates
+abbrev pub soft_of : Entry → Soft
+soft_of e = entry_soft (paid_literal e.literal e.weight) (nat_abs e.weight)
 
 -- each member loses s
 unfoldable pub lighten : ℕ → List ℕ → List Soft → List Soft

@@ -1,13 +1,13 @@
 // The tables of the level in work, and opening it from the entries.
-ghost use Rattle.std.specs.Prelude.{◌≡◌, ℕ, ◌≤◌, ◌<◌, pos, nat_abs, length, get_or, take};
+ghost use Rattle.std.specs.Prelude.{◌≡◌, ℕ, ◌≤◌, ◌<◌, nat_abs, length, take};
 ghost use Rattle.asp.specs.Cost.{level};
 ghost use Rattle.asp.specs.Penalty.{penalties};
-ghost use Rattle.asp.specs.Tables.{entries_of};
-ghost use Rattle.cores.specs.Tables.{empty_tables, counts_at, soft_at, opened_tables, held_in};
+ghost use Rattle.asp.specs.Tables.{entry_at};
+ghost use Rattle.cores.specs.Tables.{empty_tables, weighs_on, opened_tables, held_in};
 
 use crate::soft::Soft;
 use crate::softs::put_soft;
-use asp::penalty;
+use asp::entries::Entry;
 
 // A number stands between two tables: the compiler then keeps each table apart, and copies one where one changes.
 // Kept: the tables are arrays with their counts beside them, since a library takes nothing from the heap and recording may not fail for memory.
@@ -40,22 +40,20 @@ impl LevelTables {
     }
 
     // The level of a priority: the soft literals of its entries, in text order, in emptied tables.
-    // Kept: the entries as three slices and a count, as the service's tables lie and crate `asp` reads them.
-    pub fn opened<'a>(
-        priorities: &'a [i32],
-        literals: &'a [i32],
-        weights: &'a [i32],
-        count: usize,
-        priority: i32,
-    ) -> Self
-        requires { (count ≤ 512) × (count ≤ length priorities.now) × (count ≤ length literals.now) × (count ≤ length weights.now) × ((i : ℕ) → i < count → nat_abs (get_or literals.now i (pos 0)) ≤ 1024) }
-        ensures { result ≡ opened_tables (penalties (level priority (entries_of priorities.now literals.now weights.now count))) }
+    pub fn opened(entries: &[Entry], priority: i32) -> Self
+        requires few { length entries.now ≤ 512 }
+        requires atoms { (i : ℕ) → i < length entries.now → nat_abs (entry_at entries.now i).literal ≤ 1024 }
+        ensures { result ≡ opened_tables (penalties (level priority entries.now)) }
     {
         let mut t = LevelTables::empty();
-        for i in 0..count {
-            if counts(priorities, weights, i, priority) {
+        for e in entries {
+            if weighs_on(*e, priority) {
                 let k = t.count;
-                put_soft(&mut t.softs, k, soft_of(literals, weights, i));
+                put_soft(
+                    &mut t.softs,
+                    k,
+                    Soft::of_entry(e.paid_literal(), e.size()),
+                );
                 t.count = k + 1;
             }
         }
@@ -79,21 +77,9 @@ impl LevelTables {
     }
 }
 
-// Whether entry i is of the level, with a weight that is not 0.
-fn counts<'a>(priorities: &'a [i32], weights: &'a [i32], i: usize, priority: i32) -> bool
-    requires { (i < length priorities.now) × (i < length weights.now) }
-    ensures { result ≡ counts_at priorities.now weights.now i priority }
+// Whether an entry is of the level, with a weight that is not 0.
+fn weighs_on(e: Entry, priority: i32) -> bool
+    ensures { result ≡ weighs_on priority e }
 {
-    priority == priorities[i] && 0 < weights[i].unsigned_abs()
-}
-
-// The soft literal of entry i.
-fn soft_of<'a>(literals: &'a [i32], weights: &'a [i32], i: usize) -> Soft
-    requires { (i < length literals.now) × (i < length weights.now) × (nat_abs (get_or literals.now i (pos 0)) ≤ 1024) }
-    ensures { result ≡ soft_at literals.now weights.now i }
-{
-    Soft::of_entry(
-        penalty::paid_literal(literals[i], weights[i]),
-        weights[i].unsigned_abs(),
-    )
+    priority == e.priority && e.weight != 0
 }

@@ -1,15 +1,14 @@
-use mir.Facts.{to_z-of_z}
-use Rattle.std.proofs.Common.{arith}
-use Rattle.cores.proofs.Loops.{open_put_at, open_skip, open_stop}
+use Rattle.std.proofs.Common.{rules, ◌≡◌, ℕ, ◌≤◌, ◌<◌, nat_abs, length, take, ◌+◌, ◌-◌, ◌*◌, ◌/◌, ◌%◌, Bool, true, false, nat_eq, nat_lt, List, [], ◌∷◌, ◌++◌, slice_index_or, slice_set, bit_and, bit_or, Fits, w8, w32, w64, Bor, MutBor, ℤ, pos, ◌+ℤ◌, ◌-ℤ◌, ◌*ℤ◌, ◌≤ℤ◌, ◌<ℤ◌, FitsSigned, to_z, of_z}
+use Rattle.asp.specs.Cost.{level}
+use Rattle.asp.specs.Penalty.{penalties}
+use Rattle.asp.specs.Tables.{entry_at}
+use Rattle.cores.specs.Tables.{empty_tables, weighs_on, opened_tables, held_in}
 use Rattle.cores.proofs.level.LevelTables.opened.Goals as goal
-use Rattle.cores.proofs.level.LevelTables.opened.Goals.{then-counts, else-counts}
 
-pub loop-i-preserved : goal.loop-i-preserved
-loop-i-preserved c =
-    elim c.if-counts.branch [
-      | then-counts w ↦ open_put_at c.loop-i.invariant (omega arith) c.counts.ensures w.if-counts.true w.soft_of.ensures w.put_soft.ensures w.t-is
-      | else-counts w ↦ open_skip c.loop-i.invariant (omega arith) c.counts.ensures w.if-counts.false w.t-is
-    ]
+-- src/level.rt:49:9
+pub loop-e-preserved : goal.loop-e-preserved
+loop-e-preserved c = ?
 
+-- src/level.rt:43:5
 pub returns : goal.returns
-returns c = rw (to_z-of_z c.ranges.priority) at (open_stop c.loop-i.invariant (omega arith))
+returns c = ?
