@@ -1,5 +1,5 @@
 -- The digits that a line begins with, one by one, and what a number is by its token. Assumes nothing.
-use mathlib.Core.Path.{◌≡◌, refl, sym, ◌∙◌}
+use mathlib.Core.Path.{◌≡◌, refl, sym, ◌∙◌, subst}
 use mathlib.Core.Bool.{Bool, true, false, not, ◌&&◌, and-eq-true_iff}
 use mathlib.Core.List.{List, [], ◌∷◌}
 use mathlib.Core.Logic.{◌⊎◌, inl, inr, ⊎_elim}
@@ -7,8 +7,10 @@ use Prim.Native.Nat.{ℕ, zero, suc, ◌+◌, ◌-◌, ◌*◌, ◌<◌, ◌≤�
 use native.Mathlib.Omega.{arith}
 use lib.Dec.{leb, ltb, eqb}
 use lib.IntN.{ℤ, pos, negsuc, nat_abs}
-use lib.ListN.{length, drop}
+use lib.ListN.{length, drop, drop_of_length-le}
 use borrow.Author.Tests.{ltb-true, ltb-false, leb-true, lt-leb, ne_eqb}
+use Rattle.std.proofs.Math.Seq.{drop-length}
+use Rattle.std.proofs.lemmas.List.{length-drop, drop-drop}
 use Rattle.asp.specs.Sets.{pick}
 use Rattle.aspif_fields.specs.Fields.{Read, got, bad, bind, within, formed, token, ranged, number, natural, with_sign, signing, signed_token, signed_up_to, signed, field, next, is_digit, digits, decimal, over}
 use Rattle.aspif_fields.specs.SeenFields.{capped, cut_signed, capped_signed}
@@ -179,3 +181,66 @@ signed_numbered hi z (got y u) r h q =
 pub signed_unnumbered : (hi : ℕ) (t : Read ℤ) → bad 2 ≡ capped_signed t → bind t (signed_up_to hi) ≡ bad 2
 signed_unnumbered hi (bad c) q = sym q
 signed_unnumbered hi (got y u) q = let w : ◌≡◌ {A = ℕ} 0 1 = cc in absurd (omega arith)
+
+-- ---- what a number leaves of the line is its end
+
+pub record Ending (r l : List ℕ) : Type 0 where
+  pub less : length r ≤ length l
+  pub is : r ≡ drop (length l - length r) l
+
+pub drop_ending : (k : ℕ) (l : List ℕ) → Ending (drop k l) l
+drop_ending k l =
+    let n : length (drop k l) ≡ length l - k = length-drop k l in
+    record {
+      less = omega (arith, n);
+      is = ⊎_elim
+          (λ m. let e : length l - length (drop k l) ≡ k = omega (arith, n) in rw e)
+          (λ g. let e : length l - length (drop k l) ≡ length l = omega (arith, n) in rw (e, drop_of_length-le l {i = k} g, drop-length l))
+          (lt_or_le k (length l));
+    }
+
+ending_drop : (k : ℕ) (r l : List ℕ) → Ending r (drop k l) → Ending r l
+ending_drop k r l h =
+    let e : r ≡ drop (k + (length (drop k l) - length r)) l = h.is ∙ drop-drop (length (drop k l) - length r) k l in
+    subst (λ (m : List ℕ). Ending m l) (sym e) (drop_ending (k + (length (drop k l) - length r)) l)
+
+abbrev pub Leaves : {A : Type 0} → List ℕ → Read A → Type 0
+Leaves l (got a r) = Ending r l
+Leaves l (bad c) = Unit {0}
+
+token_leaves : (l : List ℕ) → Leaves l (token l)
+unfolding token
+token_leaves l = go (formed (length (digits l)) l)
+  where
+    go : (b : Bool) → Leaves l (pick b (got (decimal 0 (digits l)) (drop (length (digits l)) l)) (bad 2))
+    go true = drop_ending (length (digits l)) l
+    go false = tt
+
+pub number_leaves : (lo hi : ℕ) (l : List ℕ) → Leaves l (number lo hi l)
+unfolding number
+number_leaves lo hi l = go (token l) (token_leaves l)
+  where
+    in_range : (b : Bool) (v : ℕ) (r : List ℕ) → Ending r l → Leaves l (pick b (got v r) (bad 4))
+    in_range true v r h = h
+    in_range false v r h = tt
+    go : (t : Read ℕ) → Leaves l t → Leaves l (bind t (ranged lo hi))
+    go (got v r) h = in_range (within lo hi v) v r h
+    go (bad c) h = tt
+
+pub natural_leaves : (lo hi : ℕ) (l : List ℕ) → Leaves l (natural lo hi l)
+unfolding natural
+natural_leaves lo hi l = go (eqb (next l) 32)
+  where
+    up : (n : Read ℕ) → Leaves (drop 1 l) n → Leaves l n
+    up (got v r) h = ending_drop 1 r l h
+    up (bad c) h = tt
+    go : (b : Bool) → Leaves l (pick b (number lo hi (drop 1 l)) (bad 2))
+    go true = up (number lo hi (drop 1 l)) (number_leaves lo hi (drop 1 l))
+    go false = tt
+
+-- of a number that was read
+pub number_ending : (lo hi v : ℕ) (r l : List ℕ) → got v r ≡ number lo hi l → Ending r l
+number_ending lo hi v r l e = rw (← e) at (number_leaves lo hi l)
+
+pub natural_ending : (lo hi v : ℕ) (r l : List ℕ) → got v r ≡ natural lo hi l → Ending r l
+natural_ending lo hi v r l e = rw (← e) at (natural_leaves lo hi l)

@@ -16,6 +16,11 @@ read_as f (Err e) rest = bad (refusal_number e)
 abbrev pub read : {A : Type 0} → Result A Refusal → List ℕ → Read A
 read r rest = read_as (λ a. a) r rest
 
+-- what stands in the tables once it is read, and what is left of the line; or the refusal's number
+abbrev pub read_into : {A B : Type 0} → Result A Refusal → B → List ℕ → Read B
+read_into (Ok a) b rest = got b rest
+read_into (Err e) b rest = bad (refusal_number e)
+
 -- ---- numbers by their form
 
 -- "A place where a number is due and none stands is refusal 2."
