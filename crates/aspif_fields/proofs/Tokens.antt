@@ -13,7 +13,7 @@ use Rattle.std.proofs.Math.Seq.{drop-length}
 use Rattle.std.proofs.lemmas.List.{length-drop, drop-drop}
 use Rattle.asp.specs.Sets.{pick}
 use Rattle.aspif_fields.specs.Fields.{Read, got, bad, bind, within, formed, token, ranged, number, natural, with_sign, signing, signed_token, signed_up_to, signed, field, next, is_digit, digits, decimal, over}
-use Rattle.aspif_fields.specs.SeenFields.{capped, cut_signed, capped_signed}
+use Rattle.aspif_fields.specs.SeenFields.{capped, cut_signed, capped_signed, Ending}
 
 pub lt_or_le : (a b : ℕ) → (a < b) ⊎ (b ≤ a)
 lt_or_le a b = go (ltb a b) refl
@@ -183,10 +183,6 @@ signed_unnumbered hi (bad c) q = sym q
 signed_unnumbered hi (got y u) q = let w : ◌≡◌ {A = ℕ} 0 1 = cc in absurd (omega arith)
 
 -- ---- what a number leaves of the line is its end
-
-pub record Ending (r l : List ℕ) : Type 0 where
-  pub less : length r ≤ length l
-  pub is : r ≡ drop (length l - length r) l
 
 pub drop_ending : (k : ℕ) (l : List ℕ) → Ending (drop k l) l
 drop_ending k l =

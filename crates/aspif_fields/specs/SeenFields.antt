@@ -1,5 +1,5 @@
 -- What the answers of the readers of fields mean, with what they leave of the line. Assumes nothing: these are definitions.
-use Rattle.std.specs.Prelude.{List, ℕ, min, ℤ, pos, negsuc, nat_abs, Option, Some, None, Result, Ok, Err}
+use Rattle.std.specs.Prelude.{◌≡◌, List, ℕ, ◌-◌, ◌≤◌, min, ℤ, pos, negsuc, nat_abs, length, drop, Option, Some, None, Result, Ok, Err}
 use Rattle.asp.specs.Program.{Weighed, Entry}
 use Rattle.aspif_fields.specs.Fields.{Read, got, bad, Opening}
 use Rattle.aspif_fields.specs.Refusals.{refusal_number}
@@ -20,6 +20,11 @@ read r rest = read_as (λ a. a) r rest
 abbrev pub read_into : {A B : Type 0} → Result A Refusal → B → List ℕ → Read B
 read_into (Ok a) b rest = got b rest
 read_into (Err e) b rest = bad (refusal_number e)
+
+-- r is the end of the line l
+pub record Ending (r l : List ℕ) : Type 0 where
+  pub less : length r ≤ length l
+  pub is : r ≡ drop (length l - length r) l
 
 -- ---- numbers by their form
 

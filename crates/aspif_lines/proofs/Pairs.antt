@@ -77,7 +77,7 @@ highest_pairs pool g i k = highest_span (λ (p : Weighed). nat_abs p.literal) (p
 
 -- ---- the search for a literal
 
-same_decides : (l k : ℤ) → Decides (same_ℤ l k) (k ≡ l)
+pub same_decides : (l k : ℤ) → Decides (same_ℤ l k) (k ≡ l)
 same_decides (pos m) (pos n) = (λ e. let q : m ≡ n = eqb-true m n e in cc, λ e. eq-eqb m n (cc))
 same_decides (pos m) (negsuc n) = (λ e. cc, λ e. cc)
 same_decides (negsuc m) (pos n) = (λ e. cc, λ e. cc)
