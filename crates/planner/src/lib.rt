@@ -8,5 +8,6 @@ pub mod look;
 pub mod service;
 pub mod fill; // calls that fill lent bytes: what they wrote
 pub mod model;
+pub mod print;
 pub mod symbol;
 pub mod write;
