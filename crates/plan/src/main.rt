@@ -5,6 +5,7 @@
 ghost use Rattle.std.specs.Prelude.{◌≡◌, ◌≤◌, IfOk, length};
 
 use console::print::{figures, upper_bound};
+use planner::fill::part;
 use planner::look::View;
 use planner::service::Service;
 use std::io;
@@ -141,7 +142,10 @@ fn symbols(rt: &impl Print, service: &Service) -> io::Result<()> {
 fn symbol(rt: &impl Print, service: &Service, i: usize) -> io::Result<()> {
     let mut bytes = [0u8; 64];
     let answer = service.name(i, &mut bytes);
+    let Ok(name) = part(answer, &bytes) else {
+        return Ok(());
+    };
     rt.print("shown ")?;
-    rt.write_all(planner::fill::part(answer, &bytes))?;
+    rt.write_all(name)?;
     rt.print("\n")
 }

@@ -1,6 +1,7 @@
 -- The answers in print. Assumes nothing: these are definitions.
 use Rattle.std.specs.Prelude.{List, ℕ, ◌++◌, codes}
 use Rattle.std.specs.Fmt.{decimal}
+use Rattle.planner.specs.declared.advance.Count.{Count}
 use Rattle.planner.specs.declared.load.RefusedAt.{RefusedAt}
 use Rattle.planner.specs.declared.service.Refusal.{Refusal}
 use Rattle.planner.specs.declared.service.Refusal.TheVariants as refusal
@@ -13,6 +14,9 @@ status_text status.Running = codes "running"
 status_text status.Optimum = codes "optimum"
 status_text status.Incoherent = codes "incoherent"
 status_text status.Full = codes "full"
+
+abbrev pub count_text : Count → List ℕ
+count_text c = status_text c.status ++ codes " " ++ decimal c.made
 
 -- by document 01's numbers, as `says_refusal` of Calls
 abbrev pub refusal_text : Refusal → List ℕ

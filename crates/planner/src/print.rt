@@ -1,4 +1,5 @@
 // The answers in print: a status by its name, a refusal by its number.
+use crate::advance::Count;
 use crate::load::RefusedAt;
 use crate::service::{Refusal, Status};
 use std::fmt;
@@ -17,6 +18,18 @@ impl fmt::Display for Status {
             Status::Incoherent => "incoherent",
             Status::Full => "full",
         })
+    }
+}
+
+// A run's count after its status.
+impl fmt::Display for Count {
+    ghost use Rattle.std.specs.Prelude.{Some};
+    ghost use Rattle.planner.specs.Print.{count_text};
+    ghost output = { λ c. Some (count_text c) };
+
+    fn fmt<W: fmt::Write>(&self, f: &mut fmt::Formatter<W>) -> fmt::Result {
+        let Count { made, status } = self;
+        write!(f, "{status} {made}")
     }
 }
 
