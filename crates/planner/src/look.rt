@@ -7,7 +7,7 @@ use crate::service::{Service, Status};
 use advancing::state::Phase;
 
 // The level in work, from 1, the highest, and its stratum.
-#[derive(Clone, Copy, PartialEq, Eq, Debug)]
+#[derive(Clone, Copy, PartialEq, Eq, Debug, Default)]
 pub struct InWork {
     pub level: usize,
     pub stratum: u32,

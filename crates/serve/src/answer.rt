@@ -47,10 +47,7 @@ pub fn clear(rt: &impl Print, service: &mut Service) -> io::Result<()> {
 pub fn look(rt: &impl Print, view: &View) -> io::Result<()> {
     let status = view.status;
     let advances = view.advances;
-    let InWork { level, stratum } = view.in_work.unwrap_or(InWork {
-        level: 0,
-        stratum: 0,
-    });
+    let InWork { level, stratum } = view.in_work.unwrap_or_default();
     print!(rt; "status {status}\nadvances {advances}\npriorities")?;
     figures(rt, view.priorities)?;
     rt.print("\nlower")?;
