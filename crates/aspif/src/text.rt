@@ -7,6 +7,7 @@ ghost use Rattle.aspif.specs.Store.{seen_onward, OnwardAfter, seen_verdict, answ
 use aspif_fields::refusal::Refusal;
 use aspif_tables::line::{LineTurn, append_line, split_line};
 pub use aspif_tables::table::Stored;
+use std::fmt;
 
 const MOST_BYTES: usize = 65536; // document 01: "At most 65,536 bytes."
 
@@ -17,6 +18,19 @@ const HEADER: &[u8] = b"asp 1 0 0";
 pub struct RefusedAt {
     pub refusal: Refusal,
     pub line: usize,
+}
+
+// "A refused load prints only `refused 2 at line 3`, with its own numbers."
+impl fmt::Display for RefusedAt {
+    ghost use Rattle.std.specs.Prelude.{Some};
+    ghost use Rattle.aspif.specs.Print.{refused_text};
+
+    ghost output = { λ e. Some (refused_text e) };
+
+    fn fmt<W: fmt::Write>(&self, f: &mut fmt::Formatter<W>) -> fmt::Result {
+        let RefusedAt { refusal, line } = self;
+        write!(f, "refused {} at line {line}", refusal.number())
+    }
 }
 
 // The line that comes next, which is line `line`: what follows it, or nothing where the text ends with it.
