@@ -6,9 +6,7 @@ use std::process::ExitCode;
 pub fn ending(answered: io::Result<()>) -> io::Result<ExitCode> {
     match answered {
         Ok(()) => Ok(ExitCode::SUCCESS),
-        Err(error) => match error.kind() {
-            io::ErrorKind::BrokenPipe => Ok(ExitCode::from(141)),
-            _ => Err(error),
-        },
+        Err(error) if matches!(error.kind(), io::ErrorKind::BrokenPipe) => Ok(ExitCode::from(141)),
+        Err(error) => Err(error),
     }
 }

@@ -1,4 +1,4 @@
-// What the programs `plan` and `serve` share: numbers that a user writes, and the service's answers in print.
+// What the programs share: numbers that a user writes, the service's figures in print, how a program ends.
 #![tactic(auto)]
 
 pub mod end;

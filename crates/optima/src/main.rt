@@ -2,11 +2,8 @@
 // a line for its end. tests/optima.py writes the texts and the expected output: the ends by clasp, the lines of single advances by a model of document 01's machine.
 #![tactic(auto)]
 
-ghost use Rattle.planner.specs.Sound.{Sound};
-
-use aspif::text::Loading;
-use console::print::{figures, number, text};
-use planner::look::View;
+use console::print::{figures, upper_bound};
+use planner::look::{InWork, View};
 use planner::service::{Service, Status};
 use std::io;
 use std::rt::Files;
@@ -17,7 +14,7 @@ fn main(rt: HostRuntime) -> io::Result<()> {
         let Some(k) = inputs::argument(&rt, i, &mut name) else {
             return Ok(());
         };
-        one_text(&rt, &name[0..k])?;
+        one_text(&rt, &name[..k])?;
     }
     Ok(())
 }
@@ -25,98 +22,55 @@ fn main(rt: HostRuntime) -> io::Result<()> {
 fn one_text(rt: &(impl Files + Print), name: &[u8]) -> io::Result<()> {
     let mut bytes = [0u8; 65537];
     let k = inputs::read(rt, name, &mut bytes)?;
-    let l = planner::load::load(planner::service::fresh(), &bytes[0..k]);
-    let a = l.answer;
-    let s = l.service;
-    text(rt, name)?;
-    match a {
-        Loading::Accepted => optimize(rt, &s),
-        Loading::RefusedAt { number: _, line: _ } => text(rt, b": refused\n"),
+    let mut service = Service::fresh();
+    let loaded = service.load(&bytes[..k]);
+    rt.write_all(name)?;
+    match loaded {
+        Ok(()) => optimize(rt, &mut service),
+        Err(_) => rt.print(": refused\n"),
     }
 }
 
-fn optimize(rt: &impl Print, s: &Service) -> io::Result<()>
-    requires { Sound s.now }
-{
-    if s.stored.counts.atoms <= 6 {
-        text(rt, b": advance by advance\n")?;
-        trace(rt, s)?;
+fn optimize(rt: &impl Print, service: &mut Service) -> io::Result<()> {
+    if is_small(service) {
+        rt.print(": advance by advance\n")?;
+        trace(rt, service)?;
     } else {
-        text(rt, b":\n")?;
+        rt.print(":\n")?;
     }
-    let t = ran(s);
-    text(rt, b"end")?;
-    state(rt, &t)?;
-    Ok(())
+    let _ = service.run(u32::MAX);
+    rt.print("end")?;
+    state(rt, &service.look())
 }
 
-// Run to its end.
-fn ran(s: &Service) -> Service
-    requires { Sound s.now }
-    ensures { Sound result }
-{
-    let r = planner::advance::run(*s, 4294967295);
-    r.service
+// The program has at most six atoms.
+fn is_small(service: &Service) -> bool {
+    match &service.held {
+        Some(program) => program.stored.counts.atoms <= 6,
+        None => false,
+    }
 }
 
 // One line for each advance until the end, 10,000 at most.
-fn trace(rt: &impl Print, start: &Service) -> io::Result<()>
-    requires { Sound start.now }
-{
-    let mut s = *start;
-    let mut i: u32 = 0;
-    while i < 10000 {
-        s = advanced(&s);
-        if !state(rt, &s)? {
+fn trace(rt: &impl Print, service: &mut Service) -> io::Result<()> {
+    for _ in 0..10000 {
+        let status = service.advance();
+        state(rt, &service.look())?;
+        if status != Ok(Status::Running) {
             return Ok(());
         }
-        i += 1;
     }
     Ok(())
 }
 
-fn advanced(s: &Service) -> Service
-    requires { Sound s.now }
-    ensures { Sound result }
-{
-    let r = planner::advance::advance(*s);
-    r.service
-}
-
-// A line of the figures; whether the status is running.
-fn state(rt: &impl Print, s: &Service) -> io::Result<bool>
-    requires { Sound s.now }
-{
-    let l = planner::look::look(*s);
-    let v = l.view;
-    let status = v.status;
-    bounds(rt, v)?;
-    Ok(is_running(status))
-}
-
-fn is_running(s: Status) -> bool {
-    match s {
-        Status::Running => true,
-        _ => false,
-    }
-}
-
 // The number of advances, the status, the bounds, the level in work and its stratum.
-fn bounds(rt: &impl Print, v: View) -> io::Result<()> {
-    let status = v.status;
-    let lowers = v.lowers;
-    let uppers = v.uppers;
-    text(rt, b" ")?;
-    number(rt, v.advances)?;
-    text(rt, b" ")?;
-    console::print::status(rt, status)?;
-    text(rt, b" lower")?;
-    figures(rt, true, lowers, v.levels)?;
-    text(rt, b" upper")?;
-    figures(rt, v.bounded, uppers, v.levels)?;
-    text(rt, b" level ")?;
-    number(rt, v.level as u64)?;
-    text(rt, b" stratum ")?;
-    number(rt, v.stratum as u64)?;
-    text(rt, b"\n")
+fn state(rt: &impl Print, view: &View) -> io::Result<()> {
+    let advances = view.advances;
+    let status = view.status;
+    let InWork { level, stratum } = view.in_work.unwrap_or_default();
+    print!(rt; " {advances} {status} lower")?;
+    figures(rt, view.lowers)?;
+    rt.print(" upper")?;
+    upper_bound(rt, view.uppers, view.lowers.len())?;
+    println!(rt; " level {level} stratum {stratum}")
 }

@@ -3,13 +3,11 @@
 #![tactic(auto)]
 
 ghost use Rattle.std.specs.Prelude.{◌≡◌, ◌≤◌, IfOk, length};
-ghost use Rattle.planner.specs.Sound.{Sound};
 
-use aspif::text::Loading;
-use console::number::Number;
+use console::print::{figures, upper_bound};
+use planner::fill::part;
 use planner::look::View;
 use planner::service::Service;
-use planner::symbol::Showing;
 use std::io;
 use std::io::{Cursor, Read, Write};
 use std::process::ExitCode;
@@ -21,28 +19,28 @@ fn main(rt: HostRuntime) -> io::Result<ExitCode> {
 
 fn answer(rt: &(impl Env + Files + Print), err: &impl Print) -> io::Result<()> {
     match budget(rt) {
-        Number::Value { value } => plan(rt, err, value),
-        Number::Wrong => err.print(
+        Some(budget) => plan(rt, err, budget),
+        None => err.print(
             "plan: the second argument is not a number of advances from 0 to 4294967295\n",
         ),
     }
 }
 
-// The number of advances.
-fn budget(rt: &impl Env) -> Number {
+// The number of advances; none where the argument is not one.
+fn budget(rt: &impl Env) -> Option<u32> {
     let mut word = [0u8; 64];
-    let Some(k) = inputs::argument(rt, 2, &mut word) else {
-        return Number::Value { value: 1000000 };
-    };
-    console::number::read(&word[0..k])
+    match inputs::argument(rt, 2, &mut word) {
+        Some(k) => console::number::read(&word[..k]),
+        None => Some(1000000),
+    }
 }
 
 fn plan(rt: &(impl Env + Files + Print), err: &impl Print, budget: u32) -> io::Result<()> {
     let mut name = [0u8; 4096];
-    let Some(k) = inputs::argument(rt, 1, &mut name) else {
-        return plan_file(rt, err, b"plan.aspif", budget);
-    };
-    plan_file(rt, err, &name[0..k], budget)
+    match inputs::argument(rt, 1, &mut name) {
+        Some(k) => plan_file(rt, err, &name[..k], budget),
+        None => plan_file(rt, err, b"plan.aspif", budget),
+    }
 }
 
 // A file that cannot be read counts as empty.
@@ -54,12 +52,10 @@ fn plan_file(
 ) -> io::Result<()> {
     let mut text = [0u8; 65537];
     let k = read(rt, err, name, &mut text)?;
-    let l = planner::load::load(planner::service::fresh(), &text[0..k]);
-    let a = l.answer;
-    let s = l.service;
-    match a {
-        Loading::Accepted => plan_program(rt, &s, budget),
-        Loading::RefusedAt { number, line } => console::print::refused_at(rt, number, line),
+    let mut service = Service::fresh();
+    match service.load(&text[..k]) {
+        Ok(()) => plan_program(rt, &mut service, budget),
+        Err(refused) => println!(rt; "{refused}"),
     }
 }
 
@@ -84,7 +80,7 @@ fn opened<R: Files>(rt: &R, err: &impl Print, name: &[u8]) -> io::Result<Option<
         }
     };
     let mut none = [0u8; 1];
-    if let Err(error) = file.read(&mut none[0..0]) {
+    if let Err(error) = file.read(&mut none[..0]) {
         unreadable(err, name, error)?;
         return Ok(None);
     }
@@ -92,11 +88,11 @@ fn opened<R: Files>(rt: &R, err: &impl Print, name: &[u8]) -> io::Result<Option<
 }
 
 fn unreadable(err: &impl Print, name: &[u8], error: io::Error) -> io::Result<()> {
-    err.write_all(b"plan: cannot read ")?;
+    err.print("plan: cannot read ")?;
     err.write_all(name)?;
-    err.write_all(b": ")?;
+    err.print(": ")?;
     reason(err, error)?;
-    err.write_all(b"\n")
+    err.print("\n")
 }
 
 // The error in the system's words, without its number.
@@ -115,69 +111,41 @@ fn reason(err: &impl Print, error: io::Error) -> io::Result<()> {
     }
 }
 
-fn plan_program(rt: &impl Print, s: &Service, budget: u32) -> io::Result<()>
-    requires { Sound s.now }
-{
-    let r = planner::advance::run(*s, budget);
-    let t = r.service;
-    let l = planner::look::look(t);
-    let v = l.view;
-    bounds(rt, v)?;
-    symbols(rt, &t)
+fn plan_program(rt: &impl Print, service: &mut Service, budget: u32) -> io::Result<()> {
+    let _ = service.run(budget);
+    bounds(rt, &service.look())?;
+    symbols(rt, service)
 }
 
 // The status and the bounds.
-fn bounds(rt: &impl Print, v: View) -> io::Result<()> {
-    let status = v.status;
-    let lowers = v.lowers;
-    let uppers = v.uppers;
-    console::print::status(rt, status)?;
-    console::print::text(rt, b"\nlower")?;
-    console::print::figures(rt, true, lowers, v.levels)?;
-    console::print::text(rt, b"\nupper")?;
-    console::print::figures(rt, v.bounded, uppers, v.levels)?;
-    console::print::line(rt)
+fn bounds(rt: &impl Print, view: &View) -> io::Result<()> {
+    let status = view.status;
+    print!(rt; "{status}\nlower")?;
+    figures(rt, view.lowers)?;
+    rt.print("\nupper")?;
+    upper_bound(rt, view.uppers, view.lowers.len())?;
+    rt.print("\n")
 }
 
 // The shown symbols, in text order; there are at most 512.
-fn symbols(rt: &impl Print, s: &Service) -> io::Result<()>
-    requires { Sound s.now }
-{
-    let mut i: usize = 0;
-    while i < 512 {
-        if !symbol(rt, s, i)? {
-            return Ok(());
+fn symbols(rt: &impl Print, service: &Service) -> io::Result<()> {
+    for i in 0..512 {
+        match service.shown(i) {
+            Ok(true) => symbol(rt, service, i)?,
+            Ok(false) => {}
+            Err(_) => return Ok(()),
         }
-        i += 1;
     }
     Ok(())
 }
 
-// Prints a symbol if it is shown; whether there may be more.
-fn symbol(rt: &impl Print, s: &Service, i: usize) -> io::Result<bool>
-    requires { Sound s.now }
-{
-    let r = planner::symbol::shown(*s, i);
-    let a = r.answer;
-    match a {
-        Showing::Shown => {
-            print_symbol(rt, s, i)?;
-            Ok(true)
-        }
-        Showing::Hidden => Ok(true),
-        Showing::NotLoaded => Ok(false),
-        Showing::NoSymbol => Ok(false),
-        Showing::NoModel => Ok(false),
-    }
-}
-
-fn print_symbol(rt: &impl Print, s: &Service, i: usize) -> io::Result<()>
-    requires { Sound s.now }
-{
+fn symbol(rt: &impl Print, service: &Service, i: usize) -> io::Result<()> {
     let mut bytes = [0u8; 64];
-    let r = planner::symbol::name(*s, i, &mut bytes);
-    let a = r.answer;
-    console::print::text(rt, b"shown ")?;
-    console::print::text(rt, planner::fill::part(a, &bytes))?;
-    console::print::line(rt)
+    let answer = service.name(i, &mut bytes);
+    let Ok(name) = part(answer, &bytes) else {
+        return Ok(());
+    };
+    rt.print("shown ")?;
+    rt.write_all(name)?;
+    rt.print("\n")
 }

@@ -1,22 +1,22 @@
 -- Services that hold the same program, text and optimization answer alike; so an accepted load forgets what came before. Assumes nothing.
 use mathlib.Core.Path.{◌≡◌, refl, sym, ap, ap₂, ◌∙◌, subst}
-use mathlib.Core.Bool.{Bool, true, false, true≢false}
+use mathlib.Core.Bool.{Bool, true, false}
 use mathlib.Core.List.{List, [], ◌∷◌}
-use mathlib.Core.Option.{Option, none, some}
+use Rattle.std.specs.Prelude.{Option, None, Some, IsSomeAnd}
 use Prim.Native.Nat.{ℕ}
 use lib.ListN.{length, take}
 use Rattle.asp.specs.Sets.{pick}
 use Rattle.asp.specs.Program.{Program, Symbol, atoms}
 use Rattle.aspif_lines.specs.Text.{Answer, accepted, refused, text_of}
 use Rattle.aspif.specs.Store.{stored_program}
-use Rattle.aspif.specs.declared.text.Stored.{Stored}
+use Rattle.aspif_tables.specs.declared.table.Stored.{Stored}
 use Rattle.advancing.specs.declared.state.Search.{Search}
 use Rattle.advancing.specs.Source.{FormedSource}
 use Rattle.advancing.specs.Facts.{has_model, best_in}
 use Rattle.advancing.proofs.Alike.{SameSource, advance_same, advances_same, made_same, fresh_same}
 use Rattle.optimizer.specs.declared.prepare.Preparation.{Preparation}
-use Rattle.planner.specs.declared.service.Service.{Service}
-use Rattle.planner.specs.Held.{service, source_of, status_of}
+use Rattle.planner.specs.declared.service.Loaded.{Loaded}
+use Rattle.planner.specs.Held.{Holding, loaded, holding, source_of, status_of}
 use Rattle.planner.specs.Calls.{Says, gives, Loads, Outcome, outcome, Fills, fills, Filling, count_of, seen, given, filled, unfilled, filled_with, model_bytes, FreshWith, AfterLoad, advance_call, run_call, level_seen, stratum_seen, look_call, write_call, model_call, name_call, shown_says, shown_call}
 use Rattle.planner.specs.Tally.{Call, load, clear, advance, run, look, write, model, name, shown, Reply, Tally, feed_load, feed, Leads}
 use Rattle.planner.specs.Demand.{nth, name_by}
@@ -27,28 +27,18 @@ use Rattle.planner.proofs.Together.{name_after}
 
 -- ---- alike, by what is loaded
 
-empty_alike : (p p' : Stored) (ix ix' : Preparation) (q q' : Search) → Alike (service false p ix q) (service false p' ix' q')
-empty_alike p p' ix ix' q q' = record { loaded = refl; held = λ e. absurd (true≢false (sym e)) }
-
-alike_same : {s u s' u' : Service} → s' ≡ s → u' ≡ u → Alike s u → Alike s' u'
-alike_same {s} {u} {s'} {u'} e d h = subst (λ (x : Service). Alike x u') (sym e) (subst (Alike s) (sym d) h)
+alike_same : {s u s' u' : Holding} → s' ≡ s → u' ≡ u → Alike s u → Alike s' u'
+alike_same {s} {u} {s'} {u'} e d h = subst (λ (x : Holding). Alike x u') (sym e) (subst (Alike s) (sym d) h)
 
 -- what holds of both with one optimization, and where nothing is loaded, holds of all that are alike
-by_loaded : (P : Service → Service → Type 0) → ((p p' : Stored) (ix ix' : Preparation) (q : Search) → SameHeld (service true p ix q) (service true p' ix' q) → P (service true p ix q) (service true p' ix' q))
-    → ((p p' : Stored) (ix ix' : Preparation) (q q' : Search) → P (service false p ix q) (service false p' ix' q')) → (s u : Service) → Alike s u → P s u
-by_loaded P f g s u h = go s.loaded refl
-  where
-    go : (b : Bool) → s.loaded ≡ b → P s u
-    go true e =
-        let x : service true s.stored s.prepared s.search ≡ s = ap (λ (l : Bool). service l s.stored s.prepared s.search) (sym e) in
-        let y : service true u.stored u.prepared s.search ≡ u = ap₂ (λ (l : Bool) (q : Search). service l u.stored u.prepared q) (sym e ∙ h.loaded) (h.held e).search in
-        let k : SameHeld (service true s.stored s.prepared s.search) (service true u.stored u.prepared s.search) =
-        record { here = (h.held e).here; there = (h.held e).there; program = (h.held e).program; text = (h.held e).text; search = refl } in
-        subst (λ (z : Service). P z u) x (subst (P (service true s.stored s.prepared s.search)) y (f s.stored u.stored s.prepared u.prepared s.search k))
-    go false e =
-        let x : service false s.stored s.prepared s.search ≡ s = ap (λ (l : Bool). service l s.stored s.prepared s.search) (sym e) in
-        let y : service false u.stored u.prepared u.search ≡ u = ap (λ (l : Bool). service l u.stored u.prepared u.search) (sym e ∙ h.loaded) in
-        subst (λ (z : Service). P z u) x (subst (P (service false s.stored s.prepared s.search)) y (g s.stored u.stored s.prepared u.prepared s.search u.search))
+by_loaded : (P : Holding → Holding → Type 0) → ((p p' : Stored) (ix ix' : Preparation) (q : Search) → SameHeld (loaded p ix q) (loaded p' ix' q) → P (holding p ix q) (holding p' ix' q))
+    → P None None → (s u : Holding) → Alike s u → P s u
+by_loaded P f g None None h = g
+by_loaded P f g None (Some u) h = absurd h
+by_loaded P f g (Some s) None h = absurd h
+by_loaded P f g (Some s) (Some u) h =
+    let k : SameHeld s (loaded u.stored u.prepared s.search) = record { here = h.here; there = h.there; program = h.program; text = h.text; search = refl } in
+    subst (λ (q : Search). P (Some s) (holding u.stored u.prepared q)) h.search (f s.stored u.stored s.prepared u.prepared s.search k)
 
 -- ---- calls on services in which a program is loaded
 
@@ -58,16 +48,16 @@ SameOutcome x y = (x.answer ≡ y.answer) × Alike x.after y.after
 abbrev SameFills : Fills → Fills → Type 0
 SameFills x y = (x.answer ≡ y.answer) × (x.bytes ≡ y.bytes) × Alike x.after y.after
 
-module _ (p p' : Stored) (ix ix' : Preparation) (q : Search) (h : SameHeld (service true p ix q) (service true p' ix' q)) where
-  abbrev s : Service
-  s = service true p ix q
+module _ (p p' : Stored) (ix ix' : Preparation) (q : Search) (h : SameHeld (loaded p ix q) (loaded p' ix' q)) where
+  abbrev s : Holding
+  s = holding p ix q
 
-  abbrev u : Service
-  u = service true p' ix' q
+  abbrev u : Holding
+  u = holding p' ix' q
 
   -- the optimization may move, as one
-  moved_alike : {x y : Search} → x ≡ y → Alike (service true p ix x) (service true p' ix' y)
-  moved_alike e = record { loaded = refl; held = λ l. record { here = h.here; there = h.there; program = h.program; text = h.text; search = e } }
+  moved_alike : {x y : Search} → x ≡ y → Alike (holding p ix x) (holding p' ix' y)
+  moved_alike e = record { here = h.here; there = h.there; program = h.program; text = h.text; search = e }
 
   both : Alike s u
   both = moved_alike refl
@@ -123,33 +113,30 @@ module _ (p p' : Stored) (ix ix' : Preparation) (q : Search) (h : SameHeld (serv
       let z = go (nth (stored_program p).symbols i) in (
         ap (λ (x : Fills). x.answer) (name_by_lem p ix q i b) ∙ z.0 ∙ ap (λ (o : Option Symbol). (name_by u b o).answer) (symbol_same i) ∙ sym (ap (λ (x : Fills). x.answer) (name_by_lem p' ix' q i b)),
         ap (λ (x : Fills). x.bytes) (name_by_lem p ix q i b) ∙ z.1 ∙ ap (λ (o : Option Symbol). (name_by u b o).bytes) (symbol_same i) ∙ sym (ap (λ (x : Fills). x.bytes) (name_by_lem p' ix' q i b)),
-        alike_same (name_after s b i) (name_after u b i) both,
+        alike_same (name_after b i s) (name_after b i u) both,
       )
     where
       go : (o : Option Symbol) → ((name_by s b o).answer ≡ (name_by u b o).answer) × ((name_by s b o).bytes ≡ (name_by u b o).bytes)
-      go none = (refl, refl)
-      go (some y) = (refl, refl)
+      go None = (refl, refl)
+      go (Some y) = (refl, refl)
 
   shown_alike : (i : ℕ) → SameOutcome (shown_call s i) (shown_call u i)
   shown_alike i = (go (nth (stored_program p).symbols i) refl (has_model q.phase) refl, both)
     where
       go : (o : Option Symbol) → nth (stored_program p).symbols i ≡ o → (m : Bool) → has_model q.phase ≡ m → shown_says s i ≡ shown_says u i
-      go none e m k = shown_gone p ix q i e ∙ sym (shown_gone p' ix' q i (sym (symbol_same i) ∙ e))
-      go (some y) e true k = shown_by p ix q i y e k ∙ sym (shown_by p' ix' q i y (sym (symbol_same i) ∙ e) k)
-      go (some y) e false k = shown_without p ix q i y e k ∙ sym (shown_without p' ix' q i y (sym (symbol_same i) ∙ e) k)
+      go None e m k = shown_gone p ix q i e ∙ sym (shown_gone p' ix' q i (sym (symbol_same i) ∙ e))
+      go (Some y) e true k = shown_by p ix q i y e k ∙ sym (shown_by p' ix' q i y (sym (symbol_same i) ∙ e) k)
+      go (Some y) e false k = shown_without p ix q i y e k ∙ sym (shown_without p' ix' q i y (sym (symbol_same i) ∙ e) k)
 
 -- ---- a load of an accepted text, whatever was there
 
-loaded_alike : {P : Program} {w : List ℕ} {s u : Service} → FreshWith P w s → FreshWith P w u → Alike s u
+loaded_alike : {P : Program} {w : List ℕ} {s u : Loaded} → FreshWith P w s → FreshWith P w u → SameHeld s u
 loaded_alike {s = s} {u = u} f g = record {
-  loaded = f.loaded ∙ sym g.loaded;
-  held = λ l. record {
-    here = f.tables.formed;
-    there = g.tables.formed;
-    program = f.tables.program ∙ sym g.tables.program;
-    text = f.tables.text ∙ sym g.tables.text;
-    search = f.search ∙ fresh_same (source_of s.stored).levels (source_of u.stored).levels priorities entries ∙ sym g.search;
-  };
+  here = f.tables.formed;
+  there = g.tables.formed;
+  program = f.tables.program ∙ sym g.tables.program;
+  text = f.tables.text ∙ sym g.tables.text;
+  search = f.search ∙ fresh_same (source_of s.stored).levels (source_of u.stored).levels priorities entries ∙ sym g.search;
 }
   where
     programs : stored_program s.stored ≡ stored_program u.stored
@@ -161,22 +148,27 @@ loaded_alike {s = s} {u = u} f g = record {
     entries : (stored_program s.stored).entries ≡ (stored_program u.stored).entries
     entries = ap (λ (P : Program). P.entries) programs
 
-accepted_alike : (P : Program) (w : List ℕ) (s u : Service) {a b : Loads} {s' u' : Service} → AfterLoad (accepted P w) s (outcome a s') → AfterLoad (accepted P w) u (outcome b u')
-    → (a ≡ b) × Alike s' u'
-accepted_alike P w s u d e = (d.0 ∙ sym e.0, loaded_alike d.1 e.1)
+fresh_alike : (P : Program) (w : List ℕ) (s u : Holding) → IsSomeAnd s (FreshWith P w) → IsSomeAnd u (FreshWith P w) → Alike s u
+fresh_alike P w None u f g = absurd f
+fresh_alike P w (Some s) None f g = absurd g
+fresh_alike P w (Some s) (Some u) f g = loaded_alike f g
 
-load_alike : (x : Answer) (s u : Service) → Alike s u → (a b : Loads) (s' u' : Service) → AfterLoad x s (outcome a s') → AfterLoad x u (outcome b u') → (a ≡ b) × Alike s' u'
-load_alike (accepted P w) s u h a b s' u' d e = accepted_alike P w s u d e
+accepted_alike : (P : Program) (w : List ℕ) (s u : Holding) (a b : Loads) (s' u' : Holding) → AfterLoad (accepted P w) s (outcome a s') → AfterLoad (accepted P w) u (outcome b u')
+    → (a ≡ b) × Alike s' u'
+accepted_alike P w s u a b s' u' d e = (d.0 ∙ sym e.0, fresh_alike P w s' u' d.1 e.1)
+
+load_alike : (x : Answer) (s u : Holding) → Alike s u → (a b : Loads) (s' u' : Holding) → AfterLoad x s (outcome a s') → AfterLoad x u (outcome b u') → (a ≡ b) × Alike s' u'
+load_alike (accepted P w) s u h a b s' u' d e = accepted_alike P w s u a b s' u' d e
 load_alike (refused c m) s u h a b s' u' d e =
     (ap (λ (x : Outcome Loads). x.answer) d ∙ sym (ap (λ (x : Outcome Loads). x.answer) e), alike_same (ap (λ (x : Outcome Loads). x.after) d) (ap (λ (x : Outcome Loads). x.after) e) h)
 
 -- ---- ALL CALLS
 
-outcome_alike : {A : Type 0} {x y : Outcome A} → SameOutcome x y → {a b : A} {s u : Service} → outcome a s ≡ x → outcome b u ≡ y → (a ≡ b) × Alike s u
+outcome_alike : {A : Type 0} {x y : Outcome A} → SameOutcome x y → {a b : A} {s u : Holding} → outcome a s ≡ x → outcome b u ≡ y → (a ≡ b) × Alike s u
 outcome_alike {A} h d e =
     (ap (λ (z : Outcome A). z.answer) d ∙ h.0 ∙ sym (ap (λ (z : Outcome A). z.answer) e), alike_same (ap (λ (z : Outcome A). z.after) d) (ap (λ (z : Outcome A). z.after) e) h.1)
 
-fills_alike : {x y : Fills} → SameFills x y → (a b : Filling) {s u : Service} → fills a.answer s a.bytes ≡ x → fills b.answer u b.bytes ≡ y → (a ≡ b) × Alike s u
+fills_alike : {x y : Fills} → SameFills x y → (a b : Filling) {s u : Holding} → fills a.answer s a.bytes ≡ x → fills b.answer u b.bytes ≡ y → (a ≡ b) × Alike s u
 fills_alike h a b d e = (
   ap₂ (λ (x : Says ℕ) (y : List ℕ). record { answer = x; bytes = y }) (ap (λ (z : Fills). z.answer) d ∙ h.0 ∙ sym (ap (λ (z : Fills). z.answer) e))
       (ap (λ (z : Fills). z.bytes) d ∙ h.1 ∙ sym (ap (λ (z : Fills). z.bytes) e)),
@@ -185,26 +177,26 @@ fills_alike h a b d e = (
 
 pub answers_alike : AnswersAlike
 answers_alike (load t) s u h a b s' u' d e = load_alike (text_of t) s u h a b s' u' d e
-answers_alike clear s u h a b s' u' d e = (refl, alike_same d e (record { loaded = refl; held = λ l. absurd (true≢false (sym l)) }))
+answers_alike clear s u h a b s' u' d e = (refl, alike_same d e tt)
 answers_alike advance s u h a b s' u' d e =
-    outcome_alike (by_loaded (λ x y. SameOutcome (advance_call x) (advance_call y)) advance_alike (λ p p' ix ix' q q'. (refl, empty_alike p p' ix ix' q q')) s u h) d e
+    outcome_alike (by_loaded (λ x y. SameOutcome (advance_call x) (advance_call y)) advance_alike (refl, tt) s u h) d e
 answers_alike (run k) s u h a b s' u' d e =
-    outcome_alike (by_loaded (λ x y. SameOutcome (run_call x k) (run_call y k)) (λ p p' ix ix' q z. run_alike p p' ix ix' q z k) (λ p p' ix ix' q q'. (refl, empty_alike p p' ix ix' q q')) s u h) d e
+    outcome_alike (by_loaded (λ x y. SameOutcome (run_call x k) (run_call y k)) (λ p p' ix ix' q z. run_alike p p' ix ix' q z k) (refl, tt) s u h) d e
 answers_alike look s u h a b s' u' d e =
-    outcome_alike (by_loaded (λ x y. SameOutcome (look_call x) (look_call y)) look_alike (λ p p' ix ix' q q'. (refl, empty_alike p p' ix ix' q q')) s u h) d e
+    outcome_alike (by_loaded (λ x y. SameOutcome (look_call x) (look_call y)) look_alike (refl, tt) s u h) d e
 answers_alike (write c) s u h a b s' u' d e =
-    fills_alike (by_loaded (λ x y. SameFills (write_call x c) (write_call y c)) (λ p p' ix ix' q z. write_alike p p' ix ix' q z c) (λ p p' ix ix' q q'. (refl, refl, empty_alike p p' ix ix' q q')) s u h) a b d e
+    fills_alike (by_loaded (λ x y. SameFills (write_call x c) (write_call y c)) (λ p p' ix ix' q z. write_alike p p' ix ix' q z c) (refl, refl, tt) s u h) a b d e
 answers_alike (model c) s u h a b s' u' d e =
-    fills_alike (by_loaded (λ x y. SameFills (model_call x c) (model_call y c)) (λ p p' ix ix' q z. model_alike p p' ix ix' q z c) (λ p p' ix ix' q q'. (refl, refl, empty_alike p p' ix ix' q q')) s u h) a b d e
+    fills_alike (by_loaded (λ x y. SameFills (model_call x c) (model_call y c)) (λ p p' ix ix' q z. model_alike p p' ix ix' q z c) (refl, refl, tt) s u h) a b d e
 answers_alike (name i c) s u h a b s' u' d e =
-    fills_alike (by_loaded (λ x y. SameFills (name_call x i c) (name_call y i c)) (λ p p' ix ix' q z. name_alike p p' ix ix' q z i c) (λ p p' ix ix' q q'. (refl, refl, empty_alike p p' ix ix' q q')) s u h) a b d e
+    fills_alike (by_loaded (λ x y. SameFills (name_call x i c) (name_call y i c)) (λ p p' ix ix' q z. name_alike p p' ix ix' q z i c) (refl, refl, tt) s u h) a b d e
 answers_alike (shown i) s u h a b s' u' d e =
-    outcome_alike (by_loaded (λ x y. SameOutcome (shown_call x i) (shown_call y i)) (λ p p' ix ix' q z. shown_alike p p' ix ix' q z i) (λ p p' ix ix' q q'. (refl, empty_alike p p' ix ix' q q')) s u h) d e
+    outcome_alike (by_loaded (λ x y. SameOutcome (shown_call x i) (shown_call y i)) (λ p p' ix ix' q z. shown_alike p p' ix ix' q z i) (refl, tt) s u h) d e
 
 -- ---- LISTS OF CALLS
 
-pub leads_alike : (cs : List Call) (s : Service) (T : Tally) (u : Service) (U : Tally) → Alike s u → T ≡ U
-    → (s' : Service) (T' : Tally) (l : Leads cs s T s' T') (u' : Service) (U' : Tally) (m : Leads cs u U u' U')
+pub leads_alike : (cs : List Call) (s : Holding) (T : Tally) (u : Holding) (U : Tally) → Alike s u → T ≡ U
+    → (s' : Holding) (T' : Tally) (l : Leads cs s T s' T') (u' : Holding) (U' : Tally) (m : Leads cs u U u' U')
     → (replies_of cs s T s' T' l ≡ replies_of cs u U u' U' m) × (T' ≡ U') × Alike s' u'
 leads_alike [] s T u U h e s' T' l u' U' m = (refl, l.1 ∙ e ∙ sym m.1, alike_same l.0 m.0 h)
 leads_alike (c ∷ cs) s T u U h e s' T' l u' U' m =
@@ -215,7 +207,7 @@ leads_alike (c ∷ cs) s T u U h e s' T' l u' U' m =
 -- AN ACCEPTED LOAD FORGETS WHAT CAME BEFORE
 pub load_forgets : LoadForgets
 load_forgets t P w e cs s T k ds u U j es s' T' l u' U' m =
-    let z : (l.0 ≡ m.0) × Alike l.1 m.1 = accepted_alike P w s u (subst (λ (x : Answer). AfterLoad x s (outcome l.0 l.1)) e l.2) (subst (λ (x : Answer). AfterLoad x u (outcome m.0 m.1)) e m.2) in
+    let z : (l.0 ≡ m.0) × Alike l.1 m.1 = accepted_alike P w s u l.0 m.0 l.1 m.1 (subst (λ (x : Answer). AfterLoad x s (outcome l.0 l.1)) e l.2) (subst (λ (x : Answer). AfterLoad x u (outcome m.0 m.1)) e m.2) in
     let f : feed_load t (text_of t) T ≡ feed_load t (text_of t) U = ap (λ (x : Answer). feed_load t x T) e ∙ sym (ap (λ (x : Answer). feed_load t x U) e) in
     let r = leads_alike es l.1 (feed_load t (text_of t) T) m.1 (feed_load t (text_of t) U) z.1 f s' T' l.3 u' U' m.3 in
     (ap₂ (λ (a : Loads) (as' : Replies es). (a, as')) z.0 r.0, r.1, r.2)

@@ -1,13 +1,13 @@
 -- How many advances are made, and statuses. Assumes nothing.
 use mathlib.Core.Path.{◌≡◌, refl, sym, ap, ◌∙◌, subst}
-use mathlib.Core.Bool.{Bool, true, false, true≢false}
+use mathlib.Core.Bool.{Bool, true, false}
 use mathlib.Core.Logic.{◌⊎◌, inl, inr}
 use Prim.Native.Nat.{ℕ, zero, suc, ◌+◌, ◌≤◌, ◌<◌, min}
 use Rattle.cores.proofs.Sums.{below_or}
 use native.Mathlib.Omega.{arith}
 use borrow.Author.Tests.{lt-ltb, le-ltb}
 use Rattle.asp.specs.Sets.{pick}
-use Rattle.aspif.specs.declared.text.Stored.{Stored}
+use Rattle.aspif_tables.specs.declared.table.Stored.{Stored}
 use Rattle.advancing.specs.declared.state.Phase.{Phase}
 use Rattle.advancing.specs.declared.state.Phase.TheVariants.{First, Level, Optimum, Incoherent, Full}
 use Rattle.advancing.specs.declared.state.Search.{Search}
@@ -17,20 +17,12 @@ use Rattle.advancing.specs.Advance.{advance_of, advances_of, made_by}
 use Rattle.advancing.specs.Run.{bumped_by}
 use Rattle.advancing.proofs.Advancing.{rest_advances, rest_made}
 use Rattle.optimizer.specs.declared.prepare.Preparation.{Preparation}
-use Rattle.planner.specs.declared.service.Status.{Status}
 use Rattle.planner.specs.declared.service.Status.TheVariants as status
-use Rattle.planner.specs.Held.{service, source_of, status_of}
+use Rattle.planner.specs.Held.{holding, source_of, status_of}
 use Rattle.planner.specs.Tally as told
 use Rattle.planner.specs.Demand.{Advances}
 
 -- ---- statuses
-
-abbrev code : Status → ℕ
-code status.Empty = 0
-code status.Running = 1
-code status.Optimum = 2
-code status.Incoherent = 3
-code status.Full = 4
 
 pub runs_is : (p : Phase) → told.is_running_status (status_of p) ≡ is_running p
 runs_is First = refl
@@ -42,36 +34,36 @@ runs_is Full = refl
 pub running_status : (p : Phase) → is_running p ≡ true → status_of p ≡ status.Running
 running_status First e = refl
 running_status Level e = refl
-running_status Optimum e = absurd (true≢false (sym e))
-running_status Incoherent e = absurd (true≢false (sym e))
-running_status Full e = absurd (true≢false (sym e))
+running_status Optimum e = cc
+running_status Incoherent e = cc
+running_status Full e = cc
 
 pub status_running : (p : Phase) → status_of p ≡ status.Running → is_running p ≡ true
 status_running First e = refl
 status_running Level e = refl
-status_running Optimum e = absurd (omega (arith, ap code e))
-status_running Incoherent e = absurd (omega (arith, ap code e))
-status_running Full e = absurd (omega (arith, ap code e))
+status_running Optimum e = cc
+status_running Incoherent e = cc
+status_running Full e = cc
 
 pub status_optimum : (p : Phase) → status_of p ≡ status.Optimum → p ≡ Optimum
-status_optimum First e = absurd (omega (arith, ap code e))
-status_optimum Level e = absurd (omega (arith, ap code e))
+status_optimum First e = cc
+status_optimum Level e = cc
 status_optimum Optimum e = refl
-status_optimum Incoherent e = absurd (omega (arith, ap code e))
-status_optimum Full e = absurd (omega (arith, ap code e))
+status_optimum Incoherent e = cc
+status_optimum Full e = cc
 
 pub status_incoherent : (p : Phase) → status_of p ≡ status.Incoherent → p ≡ Incoherent
-status_incoherent First e = absurd (omega (arith, ap code e))
-status_incoherent Level e = absurd (omega (arith, ap code e))
-status_incoherent Optimum e = absurd (omega (arith, ap code e))
+status_incoherent First e = cc
+status_incoherent Level e = cc
+status_incoherent Optimum e = cc
 status_incoherent Incoherent e = refl
-status_incoherent Full e = absurd (omega (arith, ap code e))
+status_incoherent Full e = cc
 
 pub status_full : (p : Phase) → status_of p ≡ status.Full → p ≡ Full
-status_full First e = absurd (omega (arith, ap code e))
-status_full Level e = absurd (omega (arith, ap code e))
-status_full Optimum e = absurd (omega (arith, ap code e))
-status_full Incoherent e = absurd (omega (arith, ap code e))
+status_full First e = cc
+status_full Level e = cc
+status_full Optimum e = cc
+status_full Incoherent e = cc
 status_full Full e = refl
 
 -- ---- counts
@@ -86,7 +78,7 @@ figure_min k = go (below_or 18446744073709551615 (0 + k))
 
 module _ (S : Source) where
   -- an advance more, or none
-  once : (k : ℕ) (s : Search) (b : Bool) → is_running s.phase ≡ b → made_by S (suc k) s ≡ pick b (suc (made_by S k (advance_of S s))) 0
+  pub once : (k : ℕ) (s : Search) (b : Bool) → is_running s.phase ≡ b → made_by S (suc k) s ≡ pick b (suc (made_by S k (advance_of S s))) 0
   unfolding made_by
   once k s b e = ap (λ (x : Bool). pick x (suc (made_by S k (advance_of S s))) 0) e
 
@@ -125,15 +117,15 @@ module _ (S : Source) where
       go false e ih = ap (λ (x : Search). is_running x.phase) (rest_advances S (suc b) s e) ∙ e
 
 -- "A run with count k leaves the service as k advance calls in a row would, each made while running"
-pub run_advances : (p : Stored) (ix : Preparation) (b : ℕ) (q : Search) → Advances (made_by (source_of p) b q) (service true p ix q) (service true p ix (advances_of (source_of p) b q))
+pub run_advances : (p : Stored) (ix : Preparation) (b : ℕ) (q : Search) → Advances (made_by (source_of p) b q) (holding p ix q) (holding p ix (advances_of (source_of p) b q))
 unfolding made_by advances_of
 run_advances p ix zero q = refl
 run_advances p ix (suc b) q = go (is_running q.phase) refl (run_advances p ix b (advance_of (source_of p) q))
   where
     go : (x : Bool) → is_running q.phase ≡ x
-        → Advances (made_by (source_of p) b (advance_of (source_of p) q)) (service true p ix (advance_of (source_of p) q)) (service true p ix (advances_of (source_of p) b (advance_of (source_of p) q)))
-        → Advances (made_by (source_of p) (suc b) q) (service true p ix q) (service true p ix (advances_of (source_of p) (suc b) q))
-    go true e h = subst (λ (n : ℕ). Advances n (service true p ix q) (service true p ix (advances_of (source_of p) (suc b) q))) (sym (once (source_of p) b q true e)) (running_status q.phase e, h)
+        → Advances (made_by (source_of p) b (advance_of (source_of p) q)) (holding p ix (advance_of (source_of p) q)) (holding p ix (advances_of (source_of p) b (advance_of (source_of p) q)))
+        → Advances (made_by (source_of p) (suc b) q) (holding p ix q) (holding p ix (advances_of (source_of p) (suc b) q))
+    go true e h = subst (λ (n : ℕ). Advances n (holding p ix q) (holding p ix (advances_of (source_of p) (suc b) q))) (sym (once (source_of p) b q true e)) (running_status q.phase e, h)
     go false e h =
-        subst (λ (n : ℕ). Advances n (service true p ix q) (service true p ix (advances_of (source_of p) (suc b) q))) (sym (once (source_of p) b q false e))
-        (ap (service true p ix) (rest_advances (source_of p) (suc b) q e))
+        subst (λ (n : ℕ). Advances n (holding p ix q) (holding p ix (advances_of (source_of p) (suc b) q))) (sym (once (source_of p) b q false e))
+        (ap (holding p ix) (rest_advances (source_of p) (suc b) q e))

@@ -1,9 +1,9 @@
 -- Demand 3. Assumes nothing.
 use mathlib.Core.Path.{◌≡◌, refl, sym, ap, ◌∙◌, subst}
-use mathlib.Core.Bool.{Bool, true, false, true≢false}
+use mathlib.Core.Bool.{Bool, true, false}
 use mathlib.Core.List.{List, []}
 use mathlib.Core.Logic.{inl, inr}
-use mathlib.Core.Option.{some}
+use Rattle.std.specs.Prelude.{Some}
 use Prim.Native.Nat.{ℕ, suc, ◌+◌, ◌*◌, ◌^◌, ◌≤◌, ◌<◌}
 use native.Mathlib.Omega.{arith}
 use lib.IntN.{ℤ, pos}
@@ -16,7 +16,7 @@ use Rattle.asp.specs.Stable.{Stable}
 use Rattle.asp.specs.Cost.{weight, W, costs, starts, NoDearer}
 use Rattle.aspif_lines.specs.Text.{Answer, accepted, text_of}
 use Rattle.aspif.specs.Store.{stored_program, stored_text, WellFormed}
-use Rattle.aspif.specs.declared.text.Stored.{Stored}
+use Rattle.aspif_tables.specs.declared.table.Stored.{Stored}
 use Rattle.aspif_lines.proofs.Spans.{append_nil, span_length}
 use Rattle.advancing.specs.declared.state.Phase.{Phase}
 use Rattle.advancing.specs.declared.state.Phase.TheVariants.{First, Level, Optimum, Incoherent, Full}
@@ -27,22 +27,20 @@ use Rattle.advancing.specs.Advance.{advances_of, made_by}
 use Rattle.advancing.specs.Facts.{Facts, has_model, is_in_work, lowers_in, uppers_in, best_in, costs_in}
 use Rattle.advancing.proofs.Reached.{reached_facts}
 use Rattle.optimizer.specs.declared.prepare.Preparation.{Preparation}
-use Rattle.planner.specs.declared.service.Service.{Service}
+use Rattle.planner.specs.declared.service.Loaded.{Loaded}
 use Rattle.planner.specs.declared.service.Status.TheVariants as status
-use Rattle.planner.specs.Held.{fresh_service, source_of, PreparedFor, status_of}
+use Rattle.planner.specs.Held.{Holding, loaded, fresh_service, source_of, PreparedFor, status_of}
 use Rattle.planner.specs.Sound.{Sound}
-use Rattle.planner.specs.Calls.{gives, Loads, outcome, fills, filled, unfilled, given, level_seen, byte_of, model_bytes, model_call, AfterLoad}
+use Rattle.planner.specs.Calls.{gives, Loads, outcome, fills, filled, given, level_seen, byte_of, model_bytes, model_call, AfterLoad}
 use Rattle.planner.specs.Tally.{load, Does, Tally, begin}
 use Rattle.planner.specs.Demand.{BestBy, RunIs, Claim, Demand, Demand3}
-use Rattle.planner.proofs.Answers.{at_true}
-use Rattle.planner.proofs.Moving.{at_false}
 use Rattle.planner.proofs.Link.{formed_source, priorities_is, levels_is, weight_is, costs_is, start_is}
 use Rattle.planner.proofs.Counting.{figure_min, runs_is, status_running, status_optimum, status_incoherent, status_full, made_most, made_ends, run_advances}
 use Rattle.planner.proofs.Symbols.{or_else, name_by_lem, shown_gone, shown_by, shown_without}
 use Rattle.planner.proofs.Together.{after, stepped_to, told_as, Now, Together, together}
 
 -- n bytes into n lent bytes
-exactly : (s : Service) (n : ℕ) (t b : List ℕ) → length t ≡ n → length b ≡ n → filled s t b ≡ fills (gives n) s t
+exactly : (s : Holding) (n : ℕ) (t b : List ℕ) → length t ≡ n → length b ≡ n → filled s t b ≡ fills (gives n) s t
 exactly s n t b e f =
     let d : drop (length t) b ≡ [] = drop_of_length-le b {i = length t} (omega arith) in
     rw (le-ltb (length b) (length t) (omega arith), d, append_nil t, e)
@@ -59,7 +57,7 @@ module _ (t : List ℕ) (p : Stored) (w : WellFormed p) (ix : Preparation) (k : 
   abbrev P : Program
   P = stored_program p
 
-  abbrev s : Service
+  abbrev s : Holding
   s = stepped_to p ix k
 
   facts : Facts S (made_by S k (fresh_for S.levels)) q
@@ -67,8 +65,8 @@ module _ (t : List ℕ) (p : Stored) (w : WellFormed p) (ix : Preparation) (k : 
 
   written : has_model q.phase ≡ true → (b : List ℕ) → model_call s b ≡ filled s (model_bytes (best_in q) (atoms P)) b
   written e b =
-      sym (at_true (has_model q.phase) (filled s (model_bytes (best_in q) p.counts.atoms) b) (unfilled 7 s b) e)
-      ∙ ap (λ (n : ℕ). filled s (model_bytes (best_in q) n) b) w.atoms
+      let f : model_call s b ≡ filled s (model_bytes (best_in q) p.counts.atoms) b = rw e refl in
+      f ∙ ap (λ (n : ℕ). filled s (model_bytes (best_in q) n) b) w.atoms
 
   best_of_lem : BestBy P s (given (has_model q.phase) (uppers_in S q))
   best_of_lem = go (has_model q.phase) refl
@@ -85,12 +83,12 @@ module _ (t : List ℕ) (p : Stored) (w : WellFormed p) (ix : Preparation) (k : 
           }
       go false e =
           record {
-            model = λ b. sym (at_false (has_model q.phase) (filled s (model_bytes (best_in q) p.counts.atoms) b) (unfilled 7 s b) e);
+            model = λ b. rw e refl;
             shows = λ i y h. shown_without p ix q i y h e;
           }
 
   optimum_of : status_of q.phase ≡ status.Optimum
-      → (u : List ℤ) × (given (has_model q.phase) (uppers_in S q) ≡ some u) × ((M : Set) → Stable P.rules M → NoDearer lt_z u (costs P M))
+      → (u : List ℤ) × (given (has_model q.phase) (uppers_in S q) ≡ Some u) × ((M : Set) → Stable P.rules M → NoDearer lt_z u (costs P M))
   optimum_of h =
       let e : q.phase ≡ Optimum = status_optimum q.phase h in
       let m : has_model q.phase ≡ true = ap has_model e in (
@@ -106,10 +104,10 @@ module _ (t : List ℕ) (p : Stored) (w : WellFormed p) (ix : Preparation) (k : 
       subst (λ (n : ℕ). made_by S k (fresh_for S.levels) < 2 ^ suc n * (2 * W P + 1)) w.atoms
       (subst (λ (x : ℕ). made_by S k (fresh_for S.levels) < 2 ^ suc p.counts.atoms * (2 * x + 1)) (weight_is p w) (facts.few (status_running q.phase h)))
 
-  patient_of : (u : List ℤ) → given (has_model q.phase) (uppers_in S q) ≡ some u → atoms P < made_by S k (fresh_for S.levels)
+  patient_of : (u : List ℤ) → given (has_model q.phase) (uppers_in S q) ≡ Some u → atoms P < made_by S k (fresh_for S.levels)
   patient_of u e = go (has_model q.phase) refl e
     where
-      go : (m : Bool) → has_model q.phase ≡ m → given m (uppers_in S q) ≡ some u → atoms P < made_by S k (fresh_for S.levels)
+      go : (m : Bool) → has_model q.phase ≡ m → given m (uppers_in S q) ≡ Some u → atoms P < made_by S k (fresh_for S.levels)
       go true h e = subst (λ (n : ℕ). n < made_by S k (fresh_for S.levels)) w.atoms (facts.patient h)
       go false h e = let z : ◌≡◌ {A = ℕ} 0 1 = cc in absurd (omega arith)
 
@@ -126,14 +124,14 @@ module _ (t : List ℕ) (p : Stored) (w : WellFormed p) (ix : Preparation) (k : 
 
   -- ---- the bounds
 
-  upper_is : {u : List ℤ} → given (has_model q.phase) (uppers_in S q) ≡ some u → uppers_in S q ≡ u
+  upper_is : {u : List ℤ} → given (has_model q.phase) (uppers_in S q) ≡ Some u → uppers_in S q ≡ u
   upper_is {u} e = go (has_model q.phase) e
     where
-      go : (m : Bool) → given m (uppers_in S q) ≡ some u → uppers_in S q ≡ u
+      go : (m : Bool) → given m (uppers_in S q) ≡ Some u → uppers_in S q ≡ u
       go true e = ap (or_else (uppers_in S q)) e
       go false e = let z : ◌≡◌ {A = ℕ} 0 1 = cc in absurd (omega arith)
 
-  settled_of : (u : List ℤ) → given (has_model q.phase) (uppers_in S q) ≡ some u → (j : ℕ) → suc j < level_seen q.phase q.work.level → get_or (lowers_in S q) j (pos 0) ≡ get_or u j (pos 0)
+  settled_of : (u : List ℤ) → given (has_model q.phase) (uppers_in S q) ≡ Some u → (j : ℕ) → suc j < level_seen q.phase q.work.level → get_or (lowers_in S q) j (pos 0) ≡ get_or u j (pos 0)
   settled_of u e j h = go (is_in_work q.phase) refl h
     where
       go : (b : Bool) → is_in_work q.phase ≡ b → suc j < pick b (q.work.level + 1) 0 → get_or (lowers_in S q) j (pos 0) ≡ get_or u j (pos 0)
@@ -141,17 +139,17 @@ module _ (t : List ℕ) (p : Stored) (w : WellFormed p) (ix : Preparation) (k : 
       go false i h = absurd (omega arith)
 
   -- a running state with a model is on a level
-  on_level_lem : (p : Phase) → status_of p ≡ status.Running → {u : List ℤ} → given (has_model p) (uppers_in S q) ≡ some u → p ≡ Level
+  on_level_lem : (p : Phase) → status_of p ≡ status.Running → {u : List ℤ} → given (has_model p) (uppers_in S q) ≡ Some u → p ≡ Level
   on_level_lem First h e = let z : ◌≡◌ {A = ℕ} 0 1 = cc in absurd (omega arith)
   on_level_lem Level h e = refl
   on_level_lem Optimum h e = let z : ◌≡◌ {A = ℕ} 0 1 = cc in absurd (omega arith)
   on_level_lem Incoherent h e = let z : ◌≡◌ {A = ℕ} 0 1 = cc in absurd (omega arith)
   on_level_lem Full h e = let z : ◌≡◌ {A = ℕ} 0 1 = cc in absurd (omega arith)
 
-  level_is : (h : status_of q.phase ≡ status.Running) {u : List ℤ} → given (has_model q.phase) (uppers_in S q) ≡ some u → level_seen q.phase q.work.level ≡ q.work.level + 1
+  level_is : (h : status_of q.phase ≡ status.Running) {u : List ℤ} → given (has_model q.phase) (uppers_in S q) ≡ Some u → level_seen q.phase q.work.level ≡ q.work.level + 1
   level_is h e = ap (λ (p : Phase). level_seen p q.work.level) (on_level_lem q.phase h e)
 
-  unsettled_of : status_of q.phase ≡ status.Running → (u : List ℤ) → given (has_model q.phase) (uppers_in S q) ≡ some u → (j : ℕ) → level_seen q.phase q.work.level ≡ suc j
+  unsettled_of : status_of q.phase ≡ status.Running → (u : List ℤ) → given (has_model q.phase) (uppers_in S q) ≡ Some u → (j : ℕ) → level_seen q.phase q.work.level ≡ suc j
       → get_or (lowers_in S q) j (pos 0) <ℤ get_or u j (pos 0)
   unsettled_of h u e j k =
       let i : q.work.level ≡ j = omega (arith, level_is h e) in
@@ -171,10 +169,10 @@ module _ (t : List ℕ) (p : Stored) (w : WellFormed p) (ix : Preparation) (k : 
       go Incoherent e n h = facts.start (ap has_model e) j i
       go Full e n h = facts.later (ap is_in_work e) j (omega arith) i
 
-  meet_of_lem : status_of q.phase ≡ status.Optimum → given (has_model q.phase) (uppers_in S q) ≡ some (lowers_in S q)
+  meet_of_lem : status_of q.phase ≡ status.Optimum → given (has_model q.phase) (uppers_in S q) ≡ Some (lowers_in S q)
   meet_of_lem h =
       let e : q.phase ≡ Optimum = status_optimum q.phase h in
-      ap (λ (p : Phase). given (has_model p) (uppers_in S q)) e ∙ ap some (sym (facts.bounds_meet e))
+      ap (λ (p : Phase). given (has_model p) (uppers_in S q)) e ∙ ap Some (sym (facts.bounds_meet e))
 
   claim_of : Claim P (stored_text p) s (told_as t p k)
   claim_of =
@@ -203,23 +201,24 @@ module _ (t : List ℕ) (p : Stored) (w : WellFormed p) (ix : Preparation) (k : 
         bounds_meet = meet_of_lem;
       }
 
-  sound_of : PreparedFor p ix → Sound s
-  sound_of o = record { formed = λ h. w; prepared = λ h. o; reached = λ h. record { source = formed_source p w; made = k; is = refl } }
+  sound_of : PreparedFor p ix → Sound (loaded p ix q)
+  sound_of o = record { formed = w; prepared = o; reached = record { source = formed_source p w; made = k; is = refl } }
 
 -- ---- a load leaves what it could have left of a fresh service
 
-fresh_of : (s : Service) (t : List ℕ) (P : Program) (w : List ℕ) → text_of t ≡ accepted P w → (a : Loads) (u : Service) → Does (load t) s a u → Does (load t) fresh_service a u
+fresh_of : (s : Holding) (t : List ℕ) (P : Program) (w : List ℕ) → text_of t ≡ accepted P w → (a : Loads) (u : Holding) → Does (load t) s a u → Does (load t) fresh_service a u
 fresh_of s t P w e a u d = subst (λ (x : Answer). AfterLoad x fresh_service (outcome a u)) (sym e) (subst (λ (x : Answer). AfterLoad x s (outcome a u)) e d)
 
 -- ---- DEMAND 3
 
-sound_fresh : Sound fresh_service
-sound_fresh = record { formed = λ h. absurd (true≢false (sym h)); prepared = λ h. absurd (true≢false (sym h)); reached = λ h. absurd (true≢false (sym h)) }
+-- of one value in two `Some`s
+some_same : {l m : Loaded} → ◌≡◌ {A = Holding} (Some l) (Some m) → l ≡ m
+some_same e = cc
 
 demand_idle : Demand fresh_service begin
-demand_idle = record { sound = sound_fresh; claim = record { loaded = refl; tally = refl; look = refl }; fresh = fresh_of fresh_service }
+demand_idle = record { sound = λ l e. cc; claim = record { loaded = refl; tally = refl; look = refl }; fresh = fresh_of fresh_service }
 
-demand_now : (t : List ℕ) {s : Service} {T : Tally} → Now t s T → Demand s T
+demand_now : (t : List ℕ) {s : Holding} {T : Tally} → Now t s T → Demand s T
 demand_now t {s} {T} n =
     let p = n.stored in
     let ix = n.preparation in
@@ -230,14 +229,14 @@ demand_now t {s} {T} n =
     (subst (λ (x : List ℕ). Claim (stored_program p) x (stepped_to p ix k) (told_as t p k)) n.tables.text (claim_of t p w ix k)) in
     let d : Demand (stepped_to p ix k) (told_as t p k) =
     record {
-      sound = sound_of t p w ix k n.prepared;
+      sound = λ l e. subst Sound (some_same e) (sound_of t p w ix k n.prepared);
       claim = record { program = n.program; written = n.written; is = n.is; claim = c };
       fresh = fresh_of (stepped_to p ix k);
     } in
-    subst (λ (x : Service). Demand x T) (sym n.service_is) (subst (Demand (stepped_to p ix k)) (sym n.tally_is) d)
+    subst (λ (x : Holding). Demand x T) (sym n.service_is) (subst (Demand (stepped_to p ix k)) (sym n.tally_is) d)
 
-demand_of : (s : Service) (T : Tally) → Together s T → Demand s T
-demand_of s T (inl (e, f)) = subst (λ (x : Service). Demand x T) (sym e) (subst (Demand fresh_service) (sym f) demand_idle)
+demand_of : (s : Holding) (T : Tally) → Together s T → Demand s T
+demand_of s T (inl (e, f)) = subst (λ (x : Holding). Demand x T) (sym e) (subst (Demand fresh_service) (sym f) demand_idle)
 demand_of s T (inr (t, n)) = demand_now t n
 
 pub demand_3 : Demand3

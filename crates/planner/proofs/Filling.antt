@@ -2,26 +2,22 @@
 use mathlib.Core.Path.{◌≡◌, refl, sym, ap, ap₂, ◌∙◌}
 use mathlib.Core.Bool.{Bool, true, false}
 use mathlib.Core.List.{List, [], ◌∷◌, ◌++◌, append_assoc}
-use Prim.Native.Nat.{ℕ, suc, ◌+◌, ◌*◌, ◌≤◌, ◌<◌}
+use Prim.Native.Nat.{ℕ, suc, ◌+◌, ◌-◌, ◌*◌, ◌≤◌, ◌<◌}
 use native.Mathlib.Omega.{arith}
 use native.Mathlib.Numerals.{add-one}
 use lib.Dec.{ltb}
-use lib.ListN.{length, get_or, drop, set, length-append, length-drop}
-use lib.Seq.{drop-cons, get_or-drop}
-use borrow.Author.Tests.{lt-ltb, le-ltb}
+use lib.ListN.{length, get_or, take, drop, set, length-drop}
+use lib.Seq.{drop-cons, get_or-drop, take-length}
+use borrow.Author.Tests.{lt-ltb}
 use Rattle.asp.specs.Sets.{pick}
 use Rattle.asp.specs.Tables.{span, row_at}
 use Rattle.aspif_lines.specs.Seen.{bytes_at}
 use Rattle.aspif.specs.Write.{written_of, buffer_of}
-use Rattle.aspif.specs.declared.write.Written.{Written}
-use Rattle.aspif.specs.declared.write.Written.TheVariants as written
+use Rattle.std.proofs.Common.{Result, Ok, Err}
+use Rattle.aspif.specs.declared.write.Short.{Short}
 use Rattle.aspif_lines.proofs.Spans.{span_snoc, span_length, span_shift}
-use Rattle.aspif.specs.Store.{stored_text}
-use Rattle.advancing.specs.Facts.{has_model, best_in}
-use Rattle.planner.specs.declared.service.Service.{Service}
-use Rattle.planner.specs.Held.{symbol_of}
-use Rattle.planner.specs.Calls.{Says, gives, refuses_for, fills, Filling, filling, filled_with, filled, unfilled, room_for, says_written, write_call, model_bytes, model_call, has_symbol, name_of, name_call}
-use Rattle.planner.proofs.Answers.{at_true}
+use Rattle.planner.specs.Held.{Holding}
+use Rattle.planner.specs.Calls.{Says, gives, refuses_for, fills, Filling, filling, filled_with, filled, room_for, says_written, name_of}
 
 set_at : (xs ys : List ℕ) (y v : ℕ) → set (xs ++ (y ∷ ys)) (length xs) v ≡ xs ++ (v ∷ ys)
 set_at [] ys y v = refl
@@ -38,10 +34,6 @@ module _ {f : ℕ → ℕ} {n : ℕ} {old : List ℕ} where
   unfolding span
   front_starts h = record { upto = omega arith; room = h; here = refl }
 
-  pub front_long : {bytes : List ℕ} {i : ℕ} → Front f n old bytes i → length bytes ≡ length old
-  front_long {bytes} {i} c =
-      omega (arith, ap length c.here, length-append (span f 1 i) (drop i old), span_length f 1 i, length-drop i old, c.upto, c.room)
-
   pub front_steps : {bytes : List ℕ} {i : ℕ} → Front f n old bytes i → i < n → {y : ℕ} → y ≡ f (i + 1) → Front f n old (set bytes i y) (i + 1)
   front_steps {bytes} {i} c h {y} q =
       let r = c.room in
@@ -57,11 +49,6 @@ module _ {f : ℕ → ℕ} {n : ℕ} {old : List ℕ} where
             (rw k at (set_at xs (drop (suc i) old) (get_or old i 0) y));
       }
 
-  pub front_ends : {bytes : List ℕ} {i : ℕ} → Front f n old bytes i → n ≤ i → filling (gives n) bytes ≡ filled_with (span f 1 n) old
-  front_ends {bytes} {i} c h =
-      let e : i ≡ n = omega (arith, c.upto) in
-      rw (span_length f 1 n, le-ltb (length old) n c.room) (ap (filling (gives n)) (rw e at c.here))
-
 pub front_short : (f : ℕ → ℕ) (n : ℕ) (old : List ℕ) → length old < n → filling (refuses_for 8 n) old ≡ filled_with (span f 1 n) old
 front_short f n old h = rw (span_length f 1 n, lt-ltb (length old) n h)
 
@@ -70,12 +57,12 @@ front_short f n old h = rw (span_length f 1 n, lt-ltb (length old) n h)
 written_says : (size room : ℕ) → says_written (written_of size room) ≡ room_for size room
 written_says size room = go (ltb room size)
   where
-    go : (b : Bool) → says_written (pick b (written.Short size) (written.Length size)) ≡ pick b (refuses_for 8 size) (gives size)
+    go : (b : Bool) → says_written (pick b (Err (record { needed = size })) (Ok size)) ≡ pick b (refuses_for 8 size) (gives size)
     go true = refl
     go false = refl
 
 -- a write of k bytes of a text
-pub written_fills : (t : List ℕ) (k : ℕ) (old bytes : List ℕ) {w : Written} {a : Says ℕ} → a ≡ says_written w → w ≡ written_of k (length old) → bytes ≡ buffer_of (bytes_at t 0 k) old
+pub written_fills : (t : List ℕ) (k : ℕ) (old bytes : List ℕ) {w : Result ℕ Short} {a : Says ℕ} → a ≡ says_written w → w ≡ written_of k (length old) → bytes ≡ buffer_of (bytes_at t 0 k) old
     → filling a bytes ≡ filled_with (bytes_at t 0 k) old
 written_fills t k old bytes p q e =
     ap₂ filling (p ∙ ap says_written q ∙ written_says k (length old) ∙ ap (λ (m : ℕ). room_for m (length old)) (sym (span_length (λ (j : ℕ). get_or t j 0) 0 k))) e
@@ -84,29 +71,14 @@ written_fills t k old bytes p q e =
 pub bytes_from : (t : List ℕ) (i k : ℕ) → bytes_at (drop i t) 0 k ≡ bytes_at t i k
 bytes_from t i k = span_shift (λ (j : ℕ). get_or (drop i t) j 0) (λ (j : ℕ). get_or t j 0) 0 i k (λ j l. let z : 0 + j ≡ j = omega arith in rw z (get_or-drop i t j 0))
 
+-- a slice from a place on
+pub all_from : (t : List ℕ) (i : ℕ) → take (length t - i) (drop i t) ≡ drop i t
+all_from t i = rw (← length-drop i t) (take-length (drop i t))
+
 -- ---- calls that fill lent bytes
 
-module _ (s : Service) (t old : List ℕ) where
-  pub fills_as : {a : Says ℕ} {b : List ℕ} → filling a b ≡ filled_with t old → fills a s b ≡ filled s t old
-  fills_as e = ap (λ (x : Filling). fills x.answer s x.bytes) e
-
-module _ (s : Service) (old : List ℕ) where
-  pub write_is : s.loaded ≡ true → {a : Says ℕ} {b : List ℕ} → filling a b ≡ filled_with (stored_text s.stored) old → fills a s b ≡ write_call s old
-  write_is l e = let t = stored_text s.stored in fills_as s t old e ∙ at_true s.loaded (filled s t old) (unfilled 6 s old) l
-
-  pub model_is : s.loaded ≡ true → has_model s.search.phase ≡ true → {a : Says ℕ} {b : List ℕ}
-      → filling a b ≡ filled_with (model_bytes (best_in s.search) s.stored.counts.atoms) old → fills a s b ≡ model_call s old
-  model_is l m e =
-      let t = model_bytes (best_in s.search) s.stored.counts.atoms in
-      fills_as s t old e ∙ at_true (has_model s.search.phase) (filled s t old) (unfilled 7 s old) m
-      ∙ at_true s.loaded (pick (has_model s.search.phase) (filled s t old) (unfilled 7 s old)) (unfilled 6 s old) l
-
-  pub name_is : (i : ℕ) → s.loaded ≡ true → i < s.stored.counts.symbols → {a : Says ℕ} {b : List ℕ}
-      → filling a b ≡ filled_with (symbol_of s.stored i).name old → fills a s b ≡ name_call s i old
-  name_is i l m e =
-      let t = (symbol_of s.stored i).name in
-      fills_as s t old e ∙ at_true (has_symbol s i) (filled s t old) (unfilled 9 s old) (lt-ltb i s.stored.counts.symbols m)
-      ∙ at_true s.loaded (pick (has_symbol s i) (filled s t old) (unfilled 9 s old)) (unfilled 6 s old) l
+pub fills_as : (s : Holding) (t old : List ℕ) {a : Says ℕ} {b : List ℕ} → filling a b ≡ filled_with t old → fills a s b ≡ filled s t old
+fills_as s t old e = ap (λ (x : Filling). fills x.answer s x.bytes) e
 
 -- a name, from the row of its symbol
 pub name_fills : (text symbols : List ℕ) (i : ℕ) (old : List ℕ) {x y : ℕ} → x ≡ get_or symbols (i * 4) 0 → y ≡ get_or symbols (i * 4 + 1) 0 → {t : List ℕ} → t ≡ drop x text

@@ -1,26 +1,24 @@
 -- Every call does something, whatever the service: an accepted text has tables to load. So every list of calls leads on. Assumes nothing.
 use mathlib.Core.Path.{◌≡◌, refl}
-use mathlib.Core.Bool.{true}
 use mathlib.Core.List.{List, [], ◌∷◌}
 use Prim.Native.Nat.{ℕ}
 use Rattle.aspif_lines.specs.Text.{Answer, accepted, refused, text_of}
 use Rattle.aspif.proofs.Witness.{accepted_stored}
 use Rattle.advancing.specs.State.{fresh_for}
 use Rattle.optimizer.proofs.Preparing.{prepared_exist}
-use Rattle.planner.specs.declared.service.Service.{Service}
-use Rattle.planner.specs.Held.{service, fresh_service, source_of}
+use Rattle.planner.specs.Held.{Holding, holding, fresh_service, source_of}
 use Rattle.planner.specs.Calls.{Loads, accepts, refuses_at, outcome, filling, AfterLoad, advance_call, run_call, look_call, write_call, model_call, name_call, shown_call}
 use Rattle.planner.specs.Tally.{Call, load, clear, advance, run, look, write, model, name, shown, Reply, Does, feed, Inhabited}
 use Rattle.planner.proofs.Link.{formed_source}
 
-does_load : (t : List ℕ) (x : Answer) → text_of t ≡ x → (s : Service) → (a : Loads) × (u : Service) × AfterLoad x s (outcome a u)
+does_load : (t : List ℕ) (x : Answer) → text_of t ≡ x → (s : Holding) → (a : Loads) × (u : Holding) × AfterLoad x s (outcome a u)
 does_load t (accepted P w) e s =
     let (p, formed, program, text) = accepted_stored t P w e in
     let (ix, prepared) = prepared_exist (source_of p) (formed_source p formed) in
-    (accepts, service true p ix (fresh_for (source_of p).levels), (refl, record { loaded = refl; tables = record { formed = formed; program = program; text = text }; prepared = prepared; search = refl }))
+    (accepts, holding p ix (fresh_for (source_of p).levels), (refl, record { tables = record { formed = formed; program = program; text = text }; prepared = prepared; search = refl }))
 does_load t (refused c m) e s = (refuses_at c m, s, refl)
 
-does : (c : Call) (s : Service) → (a : Reply c) × (u : Service) × Does c s a u
+does : (c : Call) (s : Holding) → (a : Reply c) × (u : Holding) × Does c s a u
 does (load t) s = does_load t (text_of t) refl s
 does clear s = (tt, fresh_service, refl)
 does advance s = ((advance_call s).answer, (advance_call s).after, refl)

@@ -1,11 +1,10 @@
 pub mod Sizes
-pub mod Fresh
-pub mod Answers
 pub mod Link
+pub mod Counting
+pub mod Known
 pub mod Filling
 pub mod Parts
 pub mod Moving
-pub mod Counting
 pub mod Symbols
 pub mod Together
 pub mod Kept

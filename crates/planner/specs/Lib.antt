@@ -4,3 +4,4 @@ pub mod Calls
 pub mod Tally
 pub mod Demand
 pub mod Alike
+pub mod Print

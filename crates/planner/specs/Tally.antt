@@ -1,13 +1,12 @@
 -- Lists of calls, and the tally beside them. Document 01, "Whole lists of calls". Assumes nothing: these are definitions.
-use Rattle.std.specs.Prelude.{◌≡◌, Bool, true, false, List, [], ◌∷◌, ℕ, ◌+◌}
-use Rattle.std.proofs.Math.Option.{Option, none, some}
+use Rattle.std.specs.Prelude.{◌≡◌, Bool, true, false, List, [], ◌∷◌, ℕ, ◌+◌, Option, Some, None}
 use Rattle.asp.specs.Sets.{pick}
 use Rattle.aspif_lines.specs.Text.{Answer, accepted, refused, text_of}
-use Rattle.planner.specs.declared.service.Service.{Service}
 use Rattle.planner.specs.declared.service.Status.{Status}
 use Rattle.planner.specs.declared.service.Status.TheVariants as status
-use Rattle.planner.specs.Held.{fresh_service}
-use Rattle.planner.specs.Calls.{Says, gives, refuses, refuses_for, Loads, outcome, fills, Filling, Count, Seen, AfterLoad, advance_call, run_call, look_call, write_call, model_call, name_call, shown_call}
+use Rattle.planner.specs.declared.advance.Count.{Count}
+use Rattle.planner.specs.Held.{Holding, fresh_service}
+use Rattle.planner.specs.Calls.{Says, gives, refuses, refuses_for, Loads, outcome, fills, Filling, Seen, AfterLoad, advance_call, run_call, look_call, write_call, model_call, name_call, shown_call}
 
 -- ---- calls
 
@@ -35,8 +34,8 @@ Reply (model b) = Filling
 Reply (name i b) = Filling
 Reply (shown i) = Says Bool
 
--- the call on the service s answers a and leaves u: what the public functions ensure
-abbrev pub Does : (c : Call) → Service → Reply c → Service → Type 0
+-- the call on a service that holds s answers a and leaves u: what the public methods ensure
+abbrev pub Does : (c : Call) → Holding → Reply c → Holding → Type 0
 Does (load t) s a u = AfterLoad (text_of t) s (outcome a u)
 Does clear s a u = u ≡ fresh_service
 Does advance s a u = outcome a u ≡ advance_call s
@@ -58,7 +57,7 @@ abbrev pub tally : Option (List ℕ) → Status → ℕ → Tally
 tally t a k = record { text = t; held = a; count = k }
 
 abbrev pub begin : Tally
-begin = tally none status.Empty 0
+begin = tally None status.Empty 0
 
 abbrev pub is_running_status : Status → Bool
 is_running_status status.Empty = false
@@ -69,13 +68,13 @@ is_running_status status.Full = false
 
 -- "Load of a text that keeps the rules and limits here: that text, running, 0."
 abbrev pub feed_load : List ℕ → Answer → Tally → Tally
-feed_load t (accepted P w) T = tally (some t) status.Running 0
+feed_load t (accepted P w) T = tally (Some t) status.Running 0
 feed_load t (refused c m) T = T
 
 -- with a text, or none
 abbrev pub with_text : Option (List ℕ) → Tally → Tally → Tally
-with_text none T U = T
-with_text (some t) T U = U
+with_text None T U = T
+with_text (Some t) T U = U
 
 -- "Advance, with a text: the count rises by 1 if the status held is running; then the status answered is held."
 abbrev pub feed_advance : Says Status → Tally → Tally
@@ -85,7 +84,7 @@ feed_advance (refuses_for c n) T = T
 
 -- "Run, with a text: the count rises by the run's count; the status answered is held."
 abbrev pub feed_run : Says Count → Tally → Tally
-feed_run (gives x) T = with_text T.text T (tally T.text x.held (T.count + x.made))
+feed_run (gives x) T = with_text T.text T (tally T.text x.status (T.count + x.made))
 feed_run (refuses c) T = T
 feed_run (refuses_for c n) T = T
 
@@ -103,10 +102,10 @@ feed (shown i) a T = T
 
 -- ---- "Each call gets the service as the call before left it": the calls lead from s and the tally T to u and U
 
-abbrev pub Leads : List Call → Service → Tally → Service → Tally → Type 0
+abbrev pub Leads : List Call → Holding → Tally → Holding → Tally → Type 0
 Leads [] s T u U = (u ≡ s) × (U ≡ T)
-Leads (c ∷ cs) s T u U = (a : Reply c) × (r : Service) × Does c s a r × Leads cs r (feed c a T) u U
+Leads (c ∷ cs) s T u U = (a : Reply c) × (r : Holding) × Does c s a r × Leads cs r (feed c a T) u U
 
 -- every list of calls leads on from every service, so that a claim about all that lists lead to is about each of them
 abbrev pub Inhabited : Type 0
-Inhabited = (cs : List Call) (s : Service) (T : Tally) → (u : Service) × (U : Tally) × Leads cs s T u U
+Inhabited = (cs : List Call) (s : Holding) (T : Tally) → (u : Holding) × (U : Tally) × Leads cs s T u U

@@ -1,137 +1,66 @@
 // Advance and run.
 ghost use Rattle.std.specs.Prelude.{◌≡◌};
+ghost use Rattle.planner.specs.Held.{status_of};
 ghost use Rattle.planner.specs.Sound.{Sound};
-ghost use Rattle.planner.specs.Calls.{outcome, says_advance, advance_call, says_run, run_call};
+ghost use Rattle.planner.specs.Calls.{outcome, says, moved_to, advance_call, count_of, made, ran, run_call};
 
-use crate::service::{Service, Status, status_of, used};
+use crate::service::{Loaded, Refusal, Service, Status};
 
-// The status after it; or nothing is loaded, refusal 6.
-#[derive(Clone, Copy)]
-pub enum Advancing {
-    Now { status: Status },
-    NotLoaded,
+// How many advances were made, and the status after them.
+#[derive(Clone, Copy, PartialEq, Eq, Debug)]
+pub struct Count {
+    pub made: u32,
+    pub status: Status,
 }
 
-#[derive(Clone, Copy)]
-pub struct Advanced {
-    pub service: Service,
-    pub answer: Advancing,
-}
-
-// One advance.
-pub fn advance(s: Service) -> Advanced
-    requires { Sound s }
-    ensures { outcome (says_advance result.answer) result.service ≡ advance_call s }
-{
-    if !s.loaded {
-        return Advanced {
-            service: s,
-            answer: Advancing::NotLoaded,
-        };
-    }
-    let p = s.stored;
-    let q = s.search;
-    let c = p.counts;
-    let levels = p.levels;
-    let x = s.prepared;
-    let by_condition = x.conditions;
-    let by_head = x.heads;
-    let tried = x.tried;
-    let t = optimizer::run::advance(
-        c.atoms,
-        &p.pool,
-        &p.rules,
-        c.rules,
-        used(&levels, c.levels),
-        &p.priorities,
-        &p.literals,
-        &p.weights,
-        c.entries,
-        &by_condition.starts,
-        &by_condition.rules,
-        &by_head.starts,
-        &by_head.rules,
-        &tried,
-        q,
-    );
-    let phase = t.phase;
-    let status = status_of(phase);
-    let next = Service {
-        loaded: true,
-        stored: p,
-        prepared: x,
-        search: t,
-    };
-    Advanced {
-        service: next,
-        answer: Advancing::Now { status: status },
+impl Loaded {
+    fn run(&mut self, budget: u32) -> Count
+        requires { ∥ Sound self.old ∥₁ }
+        ensures moved { self.new ≡ moved_to self.old (ran self.old budget) }
+        ensures count { result ≡ count_of (made self.old budget) (status_of (ran self.old budget).phase) }
+    {
+        let counts = self.stored.counts;
+        let after = optimizer::run::run(
+            counts.atoms,
+            &self.stored.pool,
+            &self.stored.rules,
+            counts.rules,
+            &self.stored.levels[..counts.levels],
+            &self.stored.priorities,
+            &self.stored.literals,
+            &self.stored.weights,
+            counts.entries,
+            &self.prepared.conditions.starts,
+            &self.prepared.conditions.rules,
+            &self.prepared.heads.starts,
+            &self.prepared.heads.rules,
+            &self.prepared.tried,
+            self.search,
+            budget,
+        );
+        self.search = after.search;
+        Count {
+            made: after.made,
+            status: Status::from(self.search.phase),
+        }
     }
 }
 
-// How many advances were made, and the status after them; or nothing is loaded, refusal 6.
-#[derive(Clone, Copy)]
-pub enum Running {
-    Made { made: u32, status: Status },
-    NotLoaded,
-}
-
-#[derive(Clone, Copy)]
-pub struct Ran {
-    pub service: Service,
-    pub answer: Running,
-}
-
-// "advances until the status is not running or the count of advances made equals the budget"
-pub fn run(s: Service, budget: u32) -> Ran
-    requires { Sound s }
-    ensures { outcome (says_run result.answer) result.service ≡ run_call s budget }
-{
-    if !s.loaded {
-        return Ran {
-            service: s,
-            answer: Running::NotLoaded,
-        };
+impl Service {
+    // One advance: the status after it.
+    pub fn advance(&mut self) -> Result<Status, Refusal>
+        ensures { outcome (says result) self.new.held ≡ advance_call self.old.held }
+    {
+        Ok(self.run(1)?.status)
     }
-    let p = s.stored;
-    let q = s.search;
-    let c = p.counts;
-    let levels = p.levels;
-    let x = s.prepared;
-    let by_condition = x.conditions;
-    let by_head = x.heads;
-    let tried = x.tried;
-    let a = optimizer::run::run(
-        c.atoms,
-        &p.pool,
-        &p.rules,
-        c.rules,
-        used(&levels, c.levels),
-        &p.priorities,
-        &p.literals,
-        &p.weights,
-        c.entries,
-        &by_condition.starts,
-        &by_condition.rules,
-        &by_head.starts,
-        &by_head.rules,
-        &tried,
-        q,
-        budget,
-    );
-    let t = a.search;
-    let phase = t.phase;
-    let status = status_of(phase);
-    let next = Service {
-        loaded: true,
-        stored: p,
-        prepared: x,
-        search: t,
-    };
-    Ran {
-        service: next,
-        answer: Running::Made {
-            made: a.made,
-            status: status,
-        },
+
+    // "advances until the status is not running or the count of advances made equals the budget"
+    pub fn run(&mut self, budget: u32) -> Result<Count, Refusal>
+        ensures { outcome (says result) self.new.held ≡ run_call self.old.held budget }
+    {
+        match &mut self.held {
+            Some(program) => Ok(program.run(budget)),
+            None => Err(Refusal::NotLoaded),
+        }
     }
 }

@@ -2,62 +2,40 @@
 ghost use Rattle.aspif_lines.specs.Text.{text_of};
 ghost use Rattle.planner.specs.Calls.{outcome, says_load, AfterLoad};
 
-use crate::service::{Service, used};
-use aspif::text::Loading;
+use crate::service::{Loaded, Service};
+pub use aspif::text::RefusedAt;
 
-#[derive(Clone, Copy)]
-pub struct Loaded {
-    pub service: Service,
-    pub answer: Loading,
-}
-
-// "accepted, the service is as a fresh one given it, with status running"; refused, it is as before.
-pub fn load(s: Service, text: &[u8]) -> Loaded
-    ensures { AfterLoad (text_of text.now) s (outcome (says_load result.answer) result.service) }
-{
-    let loaded = aspif::text::load(text);
-    let answer = loaded.answer;
-    match answer {
-        Loading::Accepted => {
-            let p = loaded.stored;
-            let c = p.counts;
-            let levels = p.levels;
-            let used_levels = used(&levels, c.levels);
-            let x = optimizer::prepare::prepare(
-                c.atoms,
-                &p.pool,
-                &p.rules,
-                c.rules,
-                used_levels,
-                &p.priorities,
-                &p.literals,
-                &p.weights,
-                c.entries,
-            );
-            let q = optimizer::run::fresh_for(
-                used_levels,
-                &p.priorities,
-                &p.literals,
-                &p.weights,
-                c.entries,
-            );
-            let next = Service {
-                loaded: true,
-                stored: p,
-                prepared: x,
-                search: q,
-            };
-            Loaded {
-                service: next,
-                answer: Loading::Accepted,
-            }
-        }
-        Loading::RefusedAt { number, line } => Loaded {
-            service: s,
-            answer: Loading::RefusedAt {
-                number: number,
-                line: line,
-            },
-        },
+impl Service {
+    // "accepted, the service is as a fresh one given it, with status running"; refused, it is as before.
+    pub fn load(&mut self, text: &[u8]) -> Result<(), RefusedAt>
+        ensures { AfterLoad (text_of text.now) self.old.held (outcome (says_load result) self.new.held) }
+    {
+        let stored = aspif::text::load(text)?;
+        let counts = stored.counts;
+        let levels = &stored.levels[..counts.levels];
+        let prepared = optimizer::prepare::prepare(
+            counts.atoms,
+            &stored.pool,
+            &stored.rules,
+            counts.rules,
+            levels,
+            &stored.priorities,
+            &stored.literals,
+            &stored.weights,
+            counts.entries,
+        );
+        let search = optimizer::run::fresh_for(
+            levels,
+            &stored.priorities,
+            &stored.literals,
+            &stored.weights,
+            counts.entries,
+        );
+        self.held = Some(Loaded {
+            stored,
+            prepared,
+            search,
+        });
+        Ok(())
     }
 }

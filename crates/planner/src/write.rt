@@ -1,26 +1,17 @@
 // Write-out: the text that was loaded, less its comments.
 ghost use Rattle.std.specs.Prelude.{◌≡◌};
-ghost use Rattle.planner.specs.Sound.{Sound};
-ghost use Rattle.planner.specs.Calls.{fills, says_fill, write_call};
+ghost use Rattle.planner.specs.Calls.{fills, says, write_call};
 
-use crate::fill::{Fill, Filled, fill_of};
-use crate::service::Service;
+use crate::fill::written;
+use crate::service::{Refusal, Service};
 
-pub fn write(s: Service, bytes: &mut [u8]) -> Filled
-    requires { Sound s }
-    ensures { fills (says_fill result.answer) result.service bytes.new ≡ write_call s bytes.old }
-{
-    if !s.loaded {
-        return Filled {
-            service: s,
-            answer: Fill::NotLoaded,
+impl Service {
+    pub fn write(&self, bytes: &mut [u8]) -> Result<usize, Refusal>
+        ensures { fills (says result) self.now.held bytes.new ≡ write_call self.now.held bytes.old }
+    {
+        let Some(l) = &self.held else {
+            return Err(Refusal::NotLoaded);
         };
-    }
-    let p = s.stored;
-    let c = p.counts;
-    let w = aspif::write::write(&p.text, c.text, bytes);
-    Filled {
-        service: s,
-        answer: fill_of(w),
+        written(aspif::write::write(&l.stored.text, l.stored.counts.text, bytes))
     }
 }

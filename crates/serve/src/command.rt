@@ -1,10 +1,10 @@
 // The commands, by their lines.
-use crate::input::after;
-use aspif::text::is_same;
-use console::number::Number;
-use planner::fill::front;
+use std::fmt;
 
-#[derive(Clone, Copy)]
+// Room enough for any answer.
+const ENOUGH: u32 = u32::MAX;
+
+#[derive(Clone, Copy, PartialEq, Eq, Debug)]
 pub enum Command {
     Nothing,
     Load { size: u32 },
@@ -17,151 +17,82 @@ pub enum Command {
     Shown { at: u32 },
     Clear,
     Quit,
-    Unknown,
+}
+
+// Why a line is no command.
+#[derive(Clone, Copy, PartialEq, Eq, Debug)]
+pub enum Mistake {
+    LongLine,
+    NotACommand,
     NoNumber,
 }
 
-pub fn goes_on(c: Command) -> bool {
-    match c {
-        Command::Quit => false,
-        Command::Nothing => true,
-        Command::Load { size: _ } => true,
-        Command::Advance => true,
-        Command::Run { budget: _ } => true,
-        Command::Look => true,
-        Command::Write { room: _ } => true,
-        Command::Model { room: _ } => true,
-        Command::Symbol { at: _, room: _ } => true,
-        Command::Shown { at: _ } => true,
-        Command::Clear => true,
-        Command::Unknown => true,
-        Command::NoNumber => true,
+impl fmt::Display for Mistake {
+    fn fmt<W: fmt::Write>(&self, f: &mut fmt::Formatter<W>) -> fmt::Result {
+        f.write_str(match self {
+            Mistake::LongLine => "the line is longer than 128 bytes",
+            Mistake::NotACommand => "not a command",
+            Mistake::NoNumber => "a number from 0 to 4294967295 is due",
+        })
     }
 }
 
-// The place of the first space, or the length.
-fn space(line: &[u8]) -> usize {
-    let mut i: usize = 0;
-    while i < line.len() {
-        if line[i] == 32 {
-            return i;
-        }
-        i += 1;
+pub fn parse(line: &[u8]) -> Result<Command, Mistake> {
+    match line {
+        b"" => Ok(Command::Nothing),
+        b"advance" => Ok(Command::Advance),
+        b"look" => Ok(Command::Look),
+        b"clear" => Ok(Command::Clear),
+        b"quit" => Ok(Command::Quit),
+        b"write" => Ok(Command::Write { room: ENOUGH }),
+        b"model" => Ok(Command::Model { room: ENOUGH }),
+        _ => with_numbers(line),
     }
-    line.len()
-}
-
-// Room enough for any answer.
-fn enough() -> u32 {
-    4294967295
-}
-
-pub fn parse(line: &[u8]) -> Command {
-    if line.len() == 0 {
-        return Command::Nothing;
-    }
-    if is_same(line, b"advance") {
-        return Command::Advance;
-    }
-    if is_same(line, b"look") {
-        return Command::Look;
-    }
-    if is_same(line, b"clear") {
-        return Command::Clear;
-    }
-    if is_same(line, b"quit") {
-        return Command::Quit;
-    }
-    if is_same(line, b"write") {
-        return Command::Write { room: enough() };
-    }
-    if is_same(line, b"model") {
-        return Command::Model { room: enough() };
-    }
-    let k = space(line);
-    parse_with(front(line, k), after(line, k))
 }
 
 // A command with a number, or two.
-fn parse_with(word: &[u8], words: &[u8]) -> Command {
-    if is_same(word, b"symbol") {
-        let k = space(words);
-        if k < words.len() {
-            return symbol(front(words, k), after(words, k));
-        }
-        return symbol_at(words);
-    }
-    match console::number::read(words) {
-        Number::Value { value } => with_number(word, value),
-        Number::Wrong => without_number(word),
-    }
-}
-
-fn with_number(word: &[u8], n: u32) -> Command {
-    if is_same(word, b"load") {
-        return Command::Load { size: n };
-    }
-    if is_same(word, b"run") {
-        return Command::Run { budget: n };
-    }
-    if is_same(word, b"write") {
-        return Command::Write { room: n };
-    }
-    if is_same(word, b"model") {
-        return Command::Model { room: n };
-    }
-    if is_same(word, b"shown") {
-        return Command::Shown { at: n };
-    }
-    Command::Unknown
-}
-
-fn takes_number(word: &[u8]) -> bool {
-    if is_same(word, b"load") {
-        return true;
-    }
-    if is_same(word, b"run") {
-        return true;
-    }
-    if is_same(word, b"write") {
-        return true;
-    }
-    if is_same(word, b"model") {
-        return true;
-    }
-    is_same(word, b"shown")
-}
-
-fn without_number(word: &[u8]) -> Command {
-    if takes_number(word) {
-        return Command::NoNumber;
-    }
-    Command::Unknown
-}
-
-fn symbol_at(at: &[u8]) -> Command {
-    match console::number::read(at) {
-        Number::Value { value } => Command::Symbol {
-            at: value,
-            room: enough(),
-        },
-        Number::Wrong => Command::NoNumber,
+fn with_numbers(line: &[u8]) -> Result<Command, Mistake> {
+    let (word, rest) = split(line);
+    let numbers = rest.unwrap_or(&[]);
+    match word {
+        b"load" => Ok(Command::Load {
+            size: number(numbers)?,
+        }),
+        b"run" => Ok(Command::Run {
+            budget: number(numbers)?,
+        }),
+        b"write" => Ok(Command::Write {
+            room: number(numbers)?,
+        }),
+        b"model" => Ok(Command::Model {
+            room: number(numbers)?,
+        }),
+        b"shown" => Ok(Command::Shown {
+            at: number(numbers)?,
+        }),
+        b"symbol" => symbol(numbers),
+        _ => Err(Mistake::NotACommand),
     }
 }
 
-fn symbol(at: &[u8], room: &[u8]) -> Command {
-    match console::number::read(at) {
-        Number::Value { value } => symbol_with(value, room),
-        Number::Wrong => Command::NoNumber,
-    }
+fn symbol(numbers: &[u8]) -> Result<Command, Mistake> {
+    let (at, rest) = split(numbers);
+    let at = number(at)?;
+    let room = match rest {
+        Some(room) => number(room)?,
+        None => ENOUGH,
+    };
+    Ok(Command::Symbol { at, room })
 }
 
-fn symbol_with(at: u32, room: &[u8]) -> Command {
-    match console::number::read(room) {
-        Number::Value { value } => Command::Symbol {
-            at: at,
-            room: value,
-        },
-        Number::Wrong => Command::NoNumber,
+fn number(text: &[u8]) -> Result<u32, Mistake> {
+    console::number::read(text).ok_or(Mistake::NoNumber)
+}
+
+// What stands before the first space, and what after it, if there is one.
+fn split<'a>(text: &'a [u8]) -> (&'a [u8], Option<&'a [u8]>) {
+    match text.iter().position(|b| *b == b' ') {
+        Some(k) => (&text[..k], Some(&text[k + 1..])),
+        None => (text, None),
     }
 }

@@ -1,4 +1,3 @@
-use Prim.Native.Nat.{◌-◌}
 use Rattle.asp.specs.Sets.{set_of}
 use Rattle.planner.specs.Calls.{byte_of}
 use Rattle.planner.proofs.Filling.{Front}
@@ -6,6 +5,3 @@ use Rattle.planner.proofs.model.fill_model.Given as goal
 
 abbrev pub invariant-loop-i : goal.invariant-loop-i
 invariant-loop-i l = Front (byte_of (set_of l.best)) l.n l.initial.bytes l.bytes l.i
-
-abbrev pub decreases-loop-i : goal.decreases-loop-i
-decreases-loop-i l = l.n - l.i

@@ -1,0 +1,12 @@
+use Rattle.std.proofs.Common.{arith}
+use Rattle.planner.proofs.Known.{known_levels, known_reached, known_prepared}
+use Rattle.planner.proofs.service.Loaded.run.Goals as goal
+
+pub shared_ref_as_front-run : goal.shared_ref_as_front-run
+shared_ref_as_front-run c = omega (arith, known_levels c.requires)
+
+pub run-after-requires-clause-reached : goal.run-after-requires-clause-reached
+run-after-requires-clause-reached c = known_reached c.requires
+
+pub run-after-requires-clause-prepared : goal.run-after-requires-clause-prepared
+run-after-requires-clause-prepared c = known_prepared c.requires
