@@ -5,7 +5,9 @@ use Rattle.asp.specs.Sets.{Set, set_of}
 use Rattle.asp.specs.Program.{Rule, All, LiteralIn}
 use Rattle.asp.specs.Cost.{level, start}
 use Rattle.asp.specs.Penalty.{Penalty, penalties}
-use Rattle.asp.specs.Tables.{span, rules_of, entries_of, Formed}
+use Rattle.asp.specs.Tables.{span, rules_of, Formed}
+use Rattle.asp.specs.declared.rules.Row.{Row}
+use Rattle.asp.specs.declared.cost.Objective.{Objective}
 use Rattle.asp.specs.Paying.{EntriesFormed}
 use Rattle.search.specs.Scan.{Rules, rules}
 use Rattle.choosing.specs.First.{tried_first}
@@ -16,16 +18,17 @@ use Rattle.indexing.specs.Leaf.{Indexes}
 -- the priorities of the levels, highest first, and the entries
 pub record Levels : Type 0 where
   pub levels : List ℤ
-  pub priorities : List ℤ
-  pub literals : List ℤ
-  pub weights : List ℤ
-  pub entrycount : ℕ
+  pub entries : List Entry
 
-abbrev pub level_tables : List ℤ → List ℤ → List ℤ → List ℤ → ℕ → Levels
-level_tables levels priorities literals weights entrycount = record { levels = levels; priorities = priorities; literals = literals; weights = weights; entrycount = entrycount }
+abbrev pub level_tables : List ℤ → List Entry → Levels
+level_tables levels entries = record { levels = levels; entries = entries }
+
+-- those that are lent
+abbrev pub levels_lent : Objective → Levels
+levels_lent o = level_tables o.levels.now o.entries.now
 
 abbrev pub entries_in : Levels → List Entry
-entries_in L = entries_of L.priorities L.literals L.weights L.entrycount
+entries_in L = L.entries
 
 -- how many levels
 abbrev pub many : Levels → ℕ
@@ -52,11 +55,11 @@ penalties_in L = span (penalties_at L) 0 (many L)
 pub record Source : Type 0 where
   pub n : ℕ
   pub pool : List ℤ
-  pub rows : List ℕ
+  pub rows : List Row
   pub rulecount : ℕ
   pub levels : Levels
 
-abbrev pub source : ℕ → List ℤ → List ℕ → ℕ → Levels → Source
+abbrev pub source : ℕ → List ℤ → List Row → ℕ → Levels → Source
 source n pool rows rulecount levels = record { n = n; pool = pool; rows = rows; rulecount = rulecount; levels = levels }
 
 abbrev pub rules_in : Source → List Rule
@@ -80,8 +83,8 @@ pub record Prepared (S : Source) (o h : Index) (tried : List ℕ) : Type 0 where
 
 -- the tables are well formed: asp's conditions, and document 01's limits as far as the code needs them
 pub record FormedLevels (L : Levels) : Type 0 where
-  pub entries : EntriesFormed L.priorities L.literals L.weights L.entrycount
-  pub few : L.entrycount ≤ 512
+  pub entries : EntriesFormed L.entries
+  pub few : length L.entries ≤ 512
   pub levels_few : many L ≤ 8
   pub light : All (λ (e : Entry). nat_abs e.weight ≤ 1000000) (entries_in L)
 
