@@ -19,7 +19,7 @@ use Rattle.asp.specs.Literal.{same_ℤ}
 use Rattle.asp.specs.Program.{All, LiteralIn}
 use Rattle.asp.specs.Cost.{cheaper}
 use Rattle.asp.specs.Penalty.{Penalty, penalties, charge, above, rise, penalty}
-use Rattle.asp.specs.Tables.{span, entry_at}
+use Rattle.asp.specs.Tables.{no_entry, span, entry_at}
 use Rattle.asp.proofs.Penalties.{paid_atom, rise_above, rise_none, above_none, above_more, above_same, cheaper_aboves, IsAbove, is_above}
 use Rattle.cores.specs.Soft.{entry}
 use Rattle.cores.specs.Level as lev
@@ -48,12 +48,16 @@ all_penalties : (P : Penalty → Type 0) (es : List Entry) → All (λ (e : Entr
 all_penalties P [] a = tt
 all_penalties P (e ∷ es) a = (a.0, all_penalties P es a.1)
 
+all_each : {A : Type 0} (P : A → Type 0) (d : A) (xs : List A) → ((i : ℕ) → i < length xs → P (get_or xs i d)) → All P xs
+all_each P d [] h = tt
+all_each P d (x ∷ xs) h = (h 0 (omega arith), all_each P d xs (λ i b. h (suc i) (omega (arith, b))))
+
 pub formed_in : (L : Levels) → FormedLevels L → FormedPenalties (penalties (entries_in L))
 formed_in L f = record {
-  few = omega (arith, f.few, length_span (entry_at L.priorities L.literals L.weights) 0 L.entrycount, length-map (entries_in L) penalty);
+  few = omega (arith, f.few, length-map (entries_in L) penalty);
   atoms =
       all_penalties (λ (p : Penalty). nat_abs p.literal ≤ 1024) (entries_in L)
-      (all_map (λ (e : Entry). LiteralIn 1024 e.literal) (λ (e : Entry). nat_abs (penalty e).literal ≤ 1024) (λ e h. rw (paid_atom e.literal e.weight) h.1) (entries_in L) f.entries.atoms);
+      (all_map (λ (e : Entry). LiteralIn 1024 e.literal) (λ (e : Entry). nat_abs (penalty e).literal ≤ 1024) (λ e h. rw (paid_atom e.literal e.weight) h.1) (entries_in L) (all_each (λ (e : Entry). LiteralIn 1024 e.literal) no_entry (entries_in L) f.entries.atoms));
   weights = all_penalties (λ (p : Penalty). p.weight ≤ 1000000) (entries_in L) f.light;
 }
 

@@ -1,7 +1,7 @@
 -- What the script's proofs cite. Assumes nothing.
 use mathlib.Core.Path.{◌≡◌, ap, ◌∙◌}
 use mathlib.Core.Logic.{◌⊎◌, inl, inr}
-use mathlib.Core.List.{List}
+use mathlib.Core.List.{List, [], ◌∷◌}
 use Prim.Native.Nat.{ℕ, zero, suc, ◌+◌, ◌≤◌, ◌<◌, zero-le}
 use native.Mathlib.Omega.{arith}
 use lib.IntN.{ℤ, pos, nat_abs}
@@ -10,42 +10,49 @@ use Rattle.asp.specs.declared.entries.Entry.{Entry}
 use Rattle.asp.specs.Program.{All}
 use Rattle.asp.specs.Cost.{level}
 use Rattle.asp.specs.Penalty.{Penalty, penalty, penalties}
-use Rattle.asp.specs.Tables.{span, entry_at, entries_of}
+use Rattle.asp.specs.Tables.{no_entry, entry_at}
 use Rattle.asp.proofs.Penalties.{paid_atom}
 use Rattle.cores.specs.Level.{assumed_from}
 use Rattle.cores.specs.declared.soft.Soft.{Soft}
 use Rattle.cores.specs.Tables.{opened_tables, SoundTables}
 use Rattle.cores.specs.Columns.{rests_of, ListedPlaces, listed_places, assumed_of}
 use Rattle.cores.proofs.Sums.{below_or}
-use Rattle.cores.proofs.Spans.{length_span}
+use Rattle.std.proofs.lemmas.List.{length-take}
 use Rattle.cores.proofs.Strata.{assumed_length, assumed_heavy}
 use Rattle.cores.proofs.Kept.{level_formed, opened_sound, assumed_front}
 use Rattle.cores.proofs.Judgements.{all_map}
 
 -- ---- entries
 
-all_span : (P : Penalty → Type 0) (f : ℕ → Entry) (i k : ℕ) → ((p : ℕ) → P (penalty (f p))) → All P (penalties (span f i k))
-unfolding span
-all_span P f i zero h = tt
-all_span P f i (suc k) h = (h i, all_span P f (i + 1) k h)
+all_front : (P : Penalty → Type 0) (n : ℕ) (es : List Entry) → ((i : ℕ) → P (penalty (entry_at es i))) → All P (penalties (take n es))
+all_front P zero es h = tt
+all_front P (suc n) [] h = tt
+all_front P (suc n) (e ∷ es) h = (h 0, all_front P n es (λ i. h (suc i)))
 
-pub opens_sound : (ps ls ws : List ℤ) (n : ℕ) (q : ℤ) → n ≤ 512 → ((i : ℕ) → nat_abs (get_or ls i (pos 0)) ≤ 1024) → ((i : ℕ) → nat_abs (get_or ws i (pos 0)) ≤ 1024)
-    → SoundTables (opened_tables (penalties (level q (entries_of ps ls ws n))))
-opens_sound ps ls ws n q h a w =
-    opened_sound (penalties (level q (entries_of ps ls ws n))) (level_formed (entries_of ps ls ws n) (record {
-      few = omega (arith, length-map (entries_of ps ls ws n) penalty, length_span (entry_at ps ls ws) 0 n);
-      atoms = all_span (λ (p : Penalty). nat_abs p.literal ≤ 1024) (entry_at ps ls ws) 0 n (λ i. rw (paid_atom (get_or ls i (pos 0)) (get_or ws i (pos 0))) (a i));
-      weights = all_span (λ (p : Penalty). p.weight ≤ 1000000) (entry_at ps ls ws) 0 n (λ i. omega (arith, w i));
+pub opens_sound : (es : List Entry) (n : ℕ) (q : ℤ) → n ≤ 512 → ((i : ℕ) → nat_abs (entry_at es i).literal ≤ 1024) → ((i : ℕ) → nat_abs (entry_at es i).weight ≤ 1024)
+    → SoundTables (opened_tables (penalties (level q (take n es))))
+opens_sound es n q h a w =
+    opened_sound (penalties (level q (take n es))) (level_formed (take n es) (record {
+      few = omega (arith, length-map (take n es) penalty, length-take n es);
+      atoms = all_front (λ (p : Penalty). nat_abs p.literal ≤ 1024) n es (λ i. rw (paid_atom (entry_at es i).literal (entry_at es i).weight) (a i));
+      weights = all_front (λ (p : Penalty). p.weight ≤ 1000000) n es (λ i. omega (arith, w i));
     }) q)
 
 -- ---- the world
 
-pub zeros : (i : ℕ) → nat_abs (get_or (replicate 512 (pos 0)) i (pos 0)) ≤ 1024
-zeros i = go (below_or i 512)
+pub zeros_literal : (i : ℕ) → nat_abs (entry_at (replicate 512 no_entry) i).literal ≤ 1024
+zeros_literal i = go (below_or i 512)
   where
-    go : (i < 512) ⊎ (512 ≤ i) → nat_abs (get_or (replicate 512 (pos 0)) i (pos 0)) ≤ 1024
-    go (inl h) = rw (get_or-replicate 512 i (pos 0) (pos 0) h) zero-le
-    go (inr h) = rw (get_or-eq_default (replicate 512 (pos 0)) (pos 0) {n = i} (rw length-replicate h)) zero-le
+    go : (i < 512) ⊎ (512 ≤ i) → nat_abs (entry_at (replicate 512 no_entry) i).literal ≤ 1024
+    go (inl h) = rw (get_or-replicate 512 i no_entry no_entry h) zero-le
+    go (inr h) = rw (get_or-eq_default (replicate 512 no_entry) no_entry {n = i} (rw length-replicate h)) zero-le
+
+pub zeros_weight : (i : ℕ) → nat_abs (entry_at (replicate 512 no_entry) i).weight ≤ 1024
+zeros_weight i = go (below_or i 512)
+  where
+    go : (i < 512) ⊎ (512 ≤ i) → nat_abs (entry_at (replicate 512 no_entry) i).weight ≤ 1024
+    go (inl h) = rw (get_or-replicate 512 i no_entry no_entry h) zero-le
+    go (inr h) = rw (get_or-eq_default (replicate 512 no_entry) no_entry {n = i} (rw length-replicate h)) zero-le
 
 -- ---- the list of assumed places, as an array
 

@@ -1,35 +1,38 @@
 // The tables of a script.
 ghost use Rattle.std.specs.Prelude.{ℕ, ◌≤◌, ◌<◌, ◌↔◌, pos, nat_abs, get_or, length, slice_index, EachIndex, IsTrue};
+ghost use Rattle.asp.specs.Tables.{entry_at};
 ghost use Rattle.cores.specs.Tables.{SoundTables};
 ghost use Rattle.cores_script.specs.Sound.{sound_prop};
 
 use crate::measure;
 use crate::numbers::Numbers;
+use asp::entries::Entry;
 use cores::level::LevelTables;
 use judging::query;
 use std::io;
 
-// Kept: arrays with a count beside them, since no program allocates.
+// Kept: an array with a count beside it, since no program allocates.
 #[derive(Drop)]
 pub struct World {
-    priorities: [i32; 512],
-    literals: [i32; 512],
-    weights: [i32; 512],
-    entries: usize,
+    entries: [Entry; 512],
+    count: usize,
     tables: LevelTables,
-    ghost few: { entries ≤ 512 },
-    ghost atoms: { (i : ℕ) → nat_abs (get_or literals i (pos 0)) ≤ 1024 },
-    ghost small: { (i : ℕ) → nat_abs (get_or weights i (pos 0)) ≤ 1024 },
+    ghost few: { count ≤ 512 },
+    ghost atoms: { (i : ℕ) → nat_abs (entry_at entries i).literal ≤ 1024 },
+    ghost small: { (i : ℕ) → nat_abs (entry_at entries i).weight ≤ 1024 },
     ghost sound: { SoundTables tables } by { sound_prop tables },
 }
 
 impl World {
     pub fn new() -> Self {
+        let free = Entry {
+            priority: 0,
+            literal: 0,
+            weight: 0,
+        };
         World {
-            priorities: [0; 512],
-            literals: [0; 512],
-            weights: [0; 512],
-            entries: 0,
+            entries: [free; 512],
+            count: 0,
             tables: LevelTables::empty(),
         }
     }
@@ -42,14 +45,16 @@ impl World {
         let atom = script.due();
         let minus = script.due();
         let weight = script.due();
-        let n = self.entries;
+        let n = self.count;
         if 512 <= n || 1000 < p || 1024 < atom || 1024 < weight {
             return;
         }
-        self.priorities[n] = asp::literal::positive(p);
-        self.literals[n] = signed(sign, atom);
-        self.weights[n] = signed(minus, weight);
-        self.entries += 1;
+        self.entries[n] = Entry {
+            priority: asp::literal::positive(p),
+            literal: signed(sign, atom),
+            weight: signed(minus, weight),
+        };
+        self.count += 1;
     }
 
     // The level of a priority is opened.
@@ -58,10 +63,7 @@ impl World {
             return Ok(());
         }
         self.tables = LevelTables::opened(
-            &self.priorities,
-            &self.literals,
-            &self.weights,
-            self.entries,
+            &self.entries[..self.count],
             asp::literal::positive(p),
         );
         print_tables(rt, false, &self.tables)

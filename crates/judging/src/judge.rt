@@ -3,6 +3,7 @@
 ghost use Rattle.cores.specs.Judging.{FormedJudging};
 ghost use Rattle.cores.specs.Tables.{judging_of};
 
+use asp::atoms::AtomSet;
 use cores::level::LevelTables;
 use cores::soft::Soft;
 use cores::softs::soft_at;
@@ -51,7 +52,7 @@ impl<'a> Cores<'a> {
         let r = soft_at(self.softs, p);
         let j = usize::from(r.core);
         if j == 0 {
-            return asp::literal::holds(model, r.literal);
+            return AtomSet { bytes: model }.holds(r.literal);
         }
         usize::from(r.index) < self.count(j, model, counts)
     }

@@ -3,7 +3,7 @@
 ghost use Rattle.std.specs.Prelude.{◌≡◌, true, ◌+◌, ◌-◌, ◌≤◌, ◌<◌, length};
 ghost use Rattle.cores.specs.Level.{under, core_fits};
 ghost use Rattle.cores.specs.Tables.{level_of, held_in, FormedTables, Counted};
-ghost use Rattle.advancing.specs.Source.{level_tables, FormedLevels};
+ghost use Rattle.advancing.specs.Source.{levels_lent, FormedLevels};
 ghost use Rattle.advancing.specs.Finish.{next_from, begun_at, open_from, settle_of, costs_of, with_best, better_of, fallen, finish_first};
 ghost use Rattle.optimizer.specs.Ending.{fallen_to, ending, standing_of, Ends, asks_core, records_of, recorded_work, finished_level, finished_of};
 ghost use Rattle.advancing.specs.Ready.{ReadyCore};
@@ -56,22 +56,18 @@ fn next_level<'a>(lowers: &'a [i64; 8], uppers: &'a [i64; 8], j: usize, k: usize
 
 // The levels from place j on; those that the best model settles where they start are passed over. After the last, the optimum.
 fn open_from<'a>(
-    levels: &'a [i32],
-    priorities: &'a [i32],
-    literals: &'a [i32],
-    weights: &'a [i32],
-    entrycount: usize,
+    objective: &'a Objective<'a>,
     w: Work,
     j: usize,
 ) -> Ending
-    requires { FormedLevels (level_tables levels.now priorities.now literals.now weights.now entrycount) × (j ≤ length levels.now) }
-    ensures { Ends (level_tables levels.now priorities.now literals.now weights.now entrycount) w result (open_from (level_tables levels.now priorities.now literals.now weights.now entrycount) w j) }
+    requires { FormedLevels (levels_lent objective.now) × (j ≤ length objective.now.levels.now) }
+    ensures { Ends (levels_lent objective.now) w result (open_from (levels_lent objective.now) w j) }
 {
     let lowers = w.lowers;
     let uppers = w.uppers;
     let mut x = w;
-    x.level = next_level(&lowers, &uppers, j, levels.len());
-    if x.level < levels.len() {
+    x.level = next_level(&lowers, &uppers, j, objective.levels.len());
+    if x.level < objective.levels.len() {
         return figures_of(Phase::Level, true, x);
     }
     figures_of(Phase::Optimum, false, x)
@@ -79,26 +75,18 @@ fn open_from<'a>(
 
 // The level in work is settled if the best model costs its lower bound there.
 fn settle<'a>(
-    levels: &'a [i32],
-    priorities: &'a [i32],
-    literals: &'a [i32],
-    weights: &'a [i32],
-    entrycount: usize,
+    objective: &'a Objective<'a>,
     w: Work,
 ) -> Ending
-    requires { FormedLevels (level_tables levels.now priorities.now literals.now weights.now entrycount) × (w.level < length levels.now) }
-    ensures { Ends (level_tables levels.now priorities.now literals.now weights.now entrycount) w result (settle_of (level_tables levels.now priorities.now literals.now weights.now entrycount) w) }
+    requires { FormedLevels (levels_lent objective.now) × (w.level < length objective.now.levels.now) }
+    ensures { Ends (levels_lent objective.now) w result (settle_of (levels_lent objective.now) w) }
 {
     let lowers = w.lowers;
     let uppers = w.uppers;
     let level = w.level;
     if figure::equal_at(&uppers, &lowers, level) {
         return open_from(
-            levels,
-            priorities,
-            literals,
-            weights,
-            entrycount,
+            objective,
             w,
             level + 1,
         );
@@ -108,20 +96,16 @@ fn settle<'a>(
 
 // The set's costs, at the front of eight figures.
 fn costs<'a>(
-    levels: &'a [i32],
-    priorities: &'a [i32],
-    literals: &'a [i32],
-    weights: &'a [i32],
-    entrycount: usize,
+    objective: &'a Objective<'a>,
     value: [u8; 1025],
 ) -> [i64; 8]
-    requires { FormedLevels (level_tables levels.now priorities.now literals.now weights.now entrycount) }
-    ensures { result ≡ costs_of (level_tables levels.now priorities.now literals.now weights.now entrycount) value }
+    requires { FormedLevels (levels_lent objective.now) }
+    ensures { result ≡ costs_of (levels_lent objective.now) value }
 {
     let mut figures = [0i64; 8];
     asp::cost::level_costs(
         levels,
-        levels.len(),
+        objective.levels.len(),
         priorities,
         literals,
         weights,
@@ -134,18 +118,14 @@ fn costs<'a>(
 
 // The set is the best model.
 fn with_best<'a>(
-    levels: &'a [i32],
-    priorities: &'a [i32],
-    literals: &'a [i32],
-    weights: &'a [i32],
-    entrycount: usize,
+    objective: &'a Objective<'a>,
     w: Work,
     value: [u8; 1025],
 ) -> Work
-    requires { FormedLevels (level_tables levels.now priorities.now literals.now weights.now entrycount) }
-    ensures { result ≡ with_best (level_tables levels.now priorities.now literals.now weights.now entrycount) w value }
+    requires { FormedLevels (levels_lent objective.now) }
+    ensures { result ≡ with_best (levels_lent objective.now) w value }
 {
-    let figures = costs(levels, priorities, literals, weights, entrycount, value);
+    let figures = costs(objective, value);
     let mut x = w;
     x.uppers = figures;
     x.best = value;
@@ -154,21 +134,17 @@ fn with_best<'a>(
 
 // It is if it is cheaper.
 fn better<'a>(
-    levels: &'a [i32],
-    priorities: &'a [i32],
-    literals: &'a [i32],
-    weights: &'a [i32],
-    entrycount: usize,
+    objective: &'a Objective<'a>,
     w: Work,
     value: [u8; 1025],
 ) -> Work
-    requires { FormedLevels (level_tables levels.now priorities.now literals.now weights.now entrycount) }
-    ensures { result ≡ better_of (level_tables levels.now priorities.now literals.now weights.now entrycount) w value }
+    requires { FormedLevels (levels_lent objective.now) }
+    ensures { result ≡ better_of (levels_lent objective.now) w value }
 {
-    let figures = costs(levels, priorities, literals, weights, entrycount, value);
+    let figures = costs(objective, value);
     let uppers = w.uppers;
-    if asp::cost::is_cheaper(&figures, &uppers, levels.len()) {
-        return with_best(levels, priorities, literals, weights, entrycount, w, value);
+    if asp::cost::is_cheaper(&figures, &uppers, objective.levels.len()) {
+        return with_best(objective, w, value);
     }
     w
 }
@@ -184,90 +160,70 @@ fn fall(w: Work, s: u32) -> Work
 
 // The end of the first query.
 fn finish_first<'a>(
-    levels: &'a [i32],
-    priorities: &'a [i32],
-    literals: &'a [i32],
-    weights: &'a [i32],
-    entrycount: usize,
+    objective: &'a Objective<'a>,
     w: Work,
     value: [u8; 1025],
     turn: Turn,
 ) -> Ending
-    requires { FormedLevels (level_tables levels.now priorities.now literals.now weights.now entrycount) }
-    ensures { Ends (level_tables levels.now priorities.now literals.now weights.now entrycount) w result (finish_first (level_tables levels.now priorities.now literals.now weights.now entrycount) w value turn) }
+    requires { FormedLevels (levels_lent objective.now) }
+    ensures { Ends (levels_lent objective.now) w result (finish_first (levels_lent objective.now) w value turn) }
 {
     match turn {
         Turn::Going => figures_of(Phase::First, false, w),
         Turn::Without => figures_of(Phase::Incoherent, false, w),
         Turn::Model => {
-            let b = with_best(levels, priorities, literals, weights, entrycount, w, value);
-            open_from(levels, priorities, literals, weights, entrycount, b, 0)
+            let b = with_best(objective, w, value);
+            open_from(objective, b, 0)
         }
     }
 }
 
 // A query on a level ended with a model; `below` is the greatest remaining weight below the stratum.
 fn with_model<'a>(
-    levels: &'a [i32],
-    priorities: &'a [i32],
-    literals: &'a [i32],
-    weights: &'a [i32],
-    entrycount: usize,
+    objective: &'a Objective<'a>,
     w: Work,
     below: u32,
     value: [u8; 1025],
 ) -> Ending
-    requires { FormedLevels (level_tables levels.now priorities.now literals.now weights.now entrycount) × (w.level < length levels.now) × (below ≡ under w.stratum (level_of w.tables).rests) }
-    ensures { Ends (level_tables levels.now priorities.now literals.now weights.now entrycount) w result (settle_of (level_tables levels.now priorities.now literals.now weights.now entrycount) (fallen (better_of (level_tables levels.now priorities.now literals.now weights.now entrycount) w value))) }
+    requires { FormedLevels (levels_lent objective.now) × (w.level < length objective.now.levels.now) × (below ≡ under w.stratum (level_of w.tables).rests) }
+    ensures { Ends (levels_lent objective.now) w result (settle_of (levels_lent objective.now) (fallen (better_of (levels_lent objective.now) w value))) }
 {
-    let b = better(levels, priorities, literals, weights, entrycount, w, value);
+    let b = better(objective, w, value);
     settle(
-        levels,
-        priorities,
-        literals,
-        weights,
-        entrycount,
+        objective,
         fall(b, below),
     )
 }
 
 // The end of a query on a level: without a model its core is recorded, in w, or the tables are full.
 fn finish_level<'a>(
-    levels: &'a [i32],
-    priorities: &'a [i32],
-    literals: &'a [i32],
-    weights: &'a [i32],
-    entrycount: usize,
+    objective: &'a Objective<'a>,
     recorded: bool,
     w: Work,
     below: u32,
     value: [u8; 1025],
     turn: Turn,
 ) -> Ending
-    requires { FormedLevels (level_tables levels.now priorities.now literals.now weights.now entrycount) × (w.level < length levels.now) × (turn ≡ Turn.Model → below ≡ under w.stratum (level_of w.tables).rests) }
-    ensures { Ends (level_tables levels.now priorities.now literals.now weights.now entrycount) w result (finished_level (level_tables levels.now priorities.now literals.now weights.now entrycount) recorded w value turn) }
+    requires { FormedLevels (levels_lent objective.now) × (w.level < length objective.now.levels.now) × (turn ≡ Turn.Model → below ≡ under w.stratum (level_of w.tables).rests) }
+    ensures { Ends (levels_lent objective.now) w result (finished_level (levels_lent objective.now) recorded w value turn) }
 {
     match turn {
         Turn::Going => figures_of(Phase::Level, false, w),
         Turn::Without => {
             if recorded {
-                return settle(levels, priorities, literals, weights, entrycount, w);
+                return settle(objective, w);
             }
             figures_of(Phase::Full, false, w)
         }
         Turn::Model => with_model(
-            levels, priorities, literals, weights, entrycount, w, below, value,
+            objective, w, below, value,
         ),
     }
 }
 
 // The end of any query: w is what stands still, with the core in its tables if it is recorded; value is the trail's set.
 pub fn finish<'a>(
-    levels: &'a [i32],
-    priorities: &'a [i32],
-    literals: &'a [i32],
-    weights: &'a [i32],
-    entrycount: usize,
+    objective: &'a Objective<'a>,
     phase: Phase,
     recorded: bool,
     w: Work,
@@ -275,15 +231,15 @@ pub fn finish<'a>(
     value: [u8; 1025],
     turn: Turn,
 ) -> Ending
-    requires { FormedLevels (level_tables levels.now priorities.now literals.now weights.now entrycount) × (phase ≡ Phase.Level → w.level < length levels.now) × (turn ≡ Turn.Model → below ≡ under w.stratum (level_of w.tables).rests) }
-    ensures { Ends (level_tables levels.now priorities.now literals.now weights.now entrycount) w result (finished_of (level_tables levels.now priorities.now literals.now weights.now entrycount) phase recorded w value turn) }
+    requires { FormedLevels (levels_lent objective.now) × (phase ≡ Phase.Level → w.level < length objective.now.levels.now) × (turn ≡ Turn.Model → below ≡ under w.stratum (level_of w.tables).rests) }
+    ensures { Ends (levels_lent objective.now) w result (finished_of (levels_lent objective.now) phase recorded w value turn) }
 {
     match phase {
         Phase::First => finish_first(
-            levels, priorities, literals, weights, entrycount, w, value, turn,
+            objective, w, value, turn,
         ),
         Phase::Level => finish_level(
-            levels, priorities, literals, weights, entrycount, recorded, w, below, value, turn,
+            objective, recorded, w, below, value, turn,
         ),
         Phase::Optimum => figures_of(Phase::Optimum, false, w),
         Phase::Incoherent => figures_of(Phase::Incoherent, false, w),
@@ -360,15 +316,11 @@ fn next_stratum(t: &LevelTables, s: u32) -> u32
 
 // The level in work, in emptied tables.
 pub fn begun<'a>(
-    levels: &'a [i32],
-    priorities: &'a [i32],
-    literals: &'a [i32],
-    weights: &'a [i32],
-    entrycount: usize,
+    objective: &'a Objective<'a>,
     w: Work,
 ) -> Work
-    requires { FormedLevels (level_tables levels.now priorities.now literals.now weights.now entrycount) × (w.level < length levels.now) }
-    ensures { result ≡ begun_at (level_tables levels.now priorities.now literals.now weights.now entrycount) w w.level }
+    requires { FormedLevels (levels_lent objective.now) × (w.level < length objective.now.levels.now) }
+    ensures { result ≡ begun_at (levels_lent objective.now) w w.level }
 {
     let p = asp::table::literal_at(levels, w.level);
     let tables = LevelTables::opened(priorities, literals, weights, entrycount, p);

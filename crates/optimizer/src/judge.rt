@@ -10,7 +10,7 @@ ghost use Rattle.search.specs.Scan.{rules};
 ghost use Rattle.counting.specs.Counters.{index, counters};
 ghost use Rattle.indexing.specs.Leaf.{Leaf};
 ghost use Rattle.judging.specs.Lent.{tables_of};
-ghost use Rattle.advancing.specs.Source.{level_tables, source};
+ghost use Rattle.advancing.specs.Source.{levels_lent, source};
 ghost use Rattle.advancing.specs.Turn.{query_tables, settled_from, in_class, soft_or_wanted, judge_full};
 
 use advancing::state::Judgement;
@@ -21,42 +21,34 @@ use judging::judge::Cores;
 
 // Whether the set costs on level l what that is settled at.
 fn is_settled_at<'a>(
-    levels: &'a [i32],
+    objective: &'a Objective<'a>,
     l: usize,
-    priorities: &'a [i32],
-    literals: &'a [i32],
-    weights: &'a [i32],
-    entrycount: usize,
     value: &'a [u8; 1025],
     lowers: &'a [i64; 8],
 ) -> bool
-    requires { (l < length levels.now) × (l < 8) × EntriesFormed priorities.now literals.now weights.now entrycount × (length value.now ≡ 1025) × (length lowers.now ≡ 8) }
+    requires { (l < length objective.now.levels.now) × (l < 8) × EntriesFormed priorities.now literals.now weights.now entrycount × (length value.now ≡ 1025) × (length lowers.now ≡ 8) }
     ensures { result ≡ same_ℤ (cost (set_of value.now) (level (get_or levels.now l (pos 0)) (entries_of priorities.now literals.now weights.now entrycount))) (get_or lowers.now l (pos 0)) }
 {
     figure::equal(
-        asp::cost::level_cost(levels, l, priorities, literals, weights, entrycount, value),
+        asp::cost::level_cost(objective, l, value),
         figure::figure_at(lowers, l),
     )
 }
 
 // Whether it does on each of the first k levels.
 pub fn is_settled<'a>(
-    levels: &'a [i32],
+    objective: &'a Objective<'a>,
     k: usize,
-    priorities: &'a [i32],
-    literals: &'a [i32],
-    weights: &'a [i32],
-    entrycount: usize,
     value: &'a [u8; 1025],
     lowers: &'a [i64; 8],
 ) -> bool
-    requires { (k ≤ length levels.now) × (k ≤ 8) × EntriesFormed priorities.now literals.now weights.now entrycount × (length value.now ≡ 1025) × (length lowers.now ≡ 8) }
+    requires { (k ≤ length objective.now.levels.now) × (k ≤ 8) × EntriesFormed priorities.now literals.now weights.now entrycount × (length value.now ≡ 1025) × (length lowers.now ≡ 8) }
     ensures { result ≡ settled_from (λ j. cost (set_of value.now) (level (get_or levels.now j (pos 0)) (entries_of priorities.now literals.now weights.now entrycount))) lowers.now 0 k }
 {
     let mut l: usize = 0;
     while l < k {
         if !is_settled_at(
-            levels, l, priorities, literals, weights, entrycount, value, lowers,
+            objective, l, value, lowers,
         ) {
             return false;
         }
@@ -79,14 +71,10 @@ fn soft_or_wanted(j: Option<usize>) -> Judgement
 fn in_class<'a>(
     n: usize,
     pool: &'a [i32],
-    rows: &'a [u16],
+    rows: &'a [Row],
     rulecount: usize,
-    levels: &'a [i32],
+    objective: &'a Objective<'a>,
     level: usize,
-    priorities: &'a [i32],
-    literals: &'a [i32],
-    weights: &'a [i32],
-    entrycount: usize,
     starts: &'a [u16],
     lists: &'a [u16],
     headstarts: &'a [u16],
@@ -96,15 +84,15 @@ fn in_class<'a>(
     m: Marks,
     lowers: &'a [i64; 8],
 ) -> bool
-    requires formed { Formed n pool.now rows.now rulecount × (level ≤ length levels.now) × (level ≤ 8) × EntriesFormed priorities.now literals.now weights.now entrycount × (length value.now ≡ 1025) × (length lowers.now ≡ 8) }
+    requires formed { Formed n pool.now rows.now rulecount × (level ≤ length objective.now.levels.now) × (level ≤ 8) × EntriesFormed priorities.now literals.now weights.now entrycount × (length value.now ≡ 1025) × (length lowers.now ≡ 8) }
     requires leaf { Leaf (rules pool.now rows.now rulecount) n (index starts.now lists.now) (index headstarts.now headlists.now) value.now (counters key.now m) }
-    ensures { result ≡ in_class (source n pool.now rows.now rulecount (level_tables levels.now priorities.now literals.now weights.now entrycount)) level lowers.now (set_of value.now) }
+    ensures { result ≡ in_class (source n pool.now rows.now rulecount (levels_lent objective.now)) level lowers.now (set_of value.now) }
 {
     if leaf::is_stable(
         pool, rows, rulecount, n, starts, lists, headstarts, headlists, value, key, m,
     ) {
         return is_settled(
-            levels, level, priorities, literals, weights, entrycount, value, lowers,
+            objective, level, value, lowers,
         );
     }
     false
@@ -114,14 +102,10 @@ fn in_class<'a>(
 pub fn judge_full<'a>(
     n: usize,
     pool: &'a [i32],
-    rows: &'a [u16],
+    rows: &'a [Row],
     rulecount: usize,
-    levels: &'a [i32],
+    objective: &'a Objective<'a>,
     level: usize,
-    priorities: &'a [i32],
-    literals: &'a [i32],
-    weights: &'a [i32],
-    entrycount: usize,
     lowers: &'a [i64; 8],
     assumed: &'a [u16],
     cores: &'a Cores<'a>,
@@ -134,13 +118,13 @@ pub fn judge_full<'a>(
     key: &'a [u16; 2048],
     m: Marks,
 ) -> Judgement
-    requires formed { Formed n pool.now rows.now rulecount × (level ≤ length levels.now) × (level ≤ 8) × EntriesFormed priorities.now literals.now weights.now entrycount × (length value.now ≡ 1025) × (length lowers.now ≡ 8) }
+    requires formed { Formed n pool.now rows.now rulecount × (level ≤ length objective.now.levels.now) × (level ≤ 8) × EntriesFormed priorities.now literals.now weights.now entrycount × (length value.now ≡ 1025) × (length lowers.now ≡ 8) }
     requires all { All (λ m. m < length cores.now.softs.now) assumed.now × All (λ m. m < length cores.now.softs.now) blamed.now }
     requires leaf { Leaf (rules pool.now rows.now rulecount) n (index starts.now lists.now) (index headstarts.now headlists.now) value.now (counters key.now m) }
-    ensures { (ws : List ℤ) (ps : List ℕ) → result ≡ judge_full (source n pool.now rows.now rulecount (level_tables levels.now priorities.now literals.now weights.now entrycount)) (query_tables level lowers.now ws ps assumed.now (tables_of cores.now)) blamed.now value.now }
+    ensures { (ws : List ℤ) (ps : List ℕ) → result ≡ judge_full (source n pool.now rows.now rulecount (levels_lent objective.now)) (query_tables level lowers.now ws ps assumed.now (tables_of cores.now)) blamed.now value.now }
 {
     if in_class(
-        n, pool, rows, rulecount, levels, level, priorities, literals, weights, entrycount, starts,
+        n, pool, rows, rulecount, objective, level, starts,
         lists, headstarts, headlists, value, key, m, lowers,
     ) {
         return soft_or_wanted(cores.judge_both(blamed, assumed, value));

@@ -1,7 +1,7 @@
 // What is made once for a program, at its load: the lists of its rules, and the atoms that a free branch tries in first. It makes an advance fast; what is answered does
 // not depend on how the lists lie.
 ghost use Rattle.std.specs.Prelude.{◌≡◌};
-ghost use Rattle.advancing.specs.Source.{level_tables, source, FormedSource, Prepared};
+ghost use Rattle.advancing.specs.Source.{levels_lent, source, FormedSource, Prepared};
 ghost use Rattle.optimizer.specs.Prepare.{no_preparation};
 
 use counting::counters::Index;
@@ -17,16 +17,12 @@ pub struct Preparation {
 pub fn prepare<'a>(
     n: usize,
     pool: &'a [i32],
-    rows: &'a [u16],
+    rows: &'a [Row],
     rulecount: usize,
-    levels: &'a [i32],
-    priorities: &'a [i32],
-    literals: &'a [i32],
-    weights: &'a [i32],
-    entrycount: usize,
+    objective: &'a Objective<'a>,
 ) -> Preparation
-    requires { FormedSource (source n pool.now rows.now rulecount (level_tables levels.now priorities.now literals.now weights.now entrycount)) }
-    ensures { Prepared (source n pool.now rows.now rulecount (level_tables levels.now priorities.now literals.now weights.now entrycount)) result.conditions result.heads result.tried }
+    requires { FormedSource (source n pool.now rows.now rulecount (levels_lent objective.now)) }
+    ensures { Prepared (source n pool.now rows.now rulecount (levels_lent objective.now)) result.conditions result.heads result.tried }
 {
     let conditions = indexing::build::lists_of(pool, rows, rulecount, false);
     let heads = indexing::build::lists_of(pool, rows, rulecount, true);

@@ -6,7 +6,7 @@ ghost use Rattle.cores.specs.Level.{under};
 ghost use Rattle.cores.specs.Tables.{level_of, SoundTables};
 ghost use Rattle.cores.specs.Columns.{rests_of};
 ghost use Rattle.judging.specs.Lent.{tables_of};
-ghost use Rattle.advancing.specs.Source.{level_tables, source, Prepared};
+ghost use Rattle.advancing.specs.Source.{levels_lent, source, Prepared};
 ghost use Rattle.advancing.specs.Turn.{query_tables, query_by, blame_tables, turned, turns, turns_of};
 ghost use Rattle.advancing.specs.Advance.{work_query};
 ghost use Rattle.advancing.specs.Ready.{ReadyQuery, GoodBlame};
@@ -29,13 +29,9 @@ pub struct Asked {
 fn run_lent<'a>(
     n: usize,
     pool: &'a [i32],
-    rows: &'a [u16],
+    rows: &'a [Row],
     rulecount: usize,
-    levels: &'a [i32],
-    priorities: &'a [i32],
-    literals: &'a [i32],
-    weights: &'a [i32],
-    entrycount: usize,
+    objective: &'a Objective<'a>,
     level: usize,
     lowers: &'a [i64; 8],
     wished: &'a [i32],
@@ -56,16 +52,16 @@ fn run_lent<'a>(
     from: usize,
     budget: u32,
 ) -> Steps
-    requires ready_query { ReadyQuery (source n pool.now rows.now rulecount (level_tables levels.now priorities.now literals.now weights.now entrycount)) (query_tables level lowers.now wished.now spots.now assumed.now (tables_of cores.now)) }
+    requires ready_query { ReadyQuery (source n pool.now rows.now rulecount (levels_lent objective.now)) (query_tables level lowers.now wished.now spots.now assumed.now (tables_of cores.now)) }
     requires good_blame { GoodBlame (query_tables level lowers.now wished.now spots.now assumed.now (tables_of cores.now)) (blame_tables flags.old core.old from) }
     requires sound_trail { SoundTrail n (places lits.old marks.old value.old len) }
-    requires prepared { Prepared (source n pool.now rows.now rulecount (level_tables levels.now priorities.now literals.now weights.now entrycount)) (index starts.now lists.now) (index headstarts.now headlists.now) tried.now }
-    ensures { turns (turned result.turning.turn (places lits.new marks.new value.new result.turning.len) (blame_tables flags.new core.new result.turning.from)) result.made ≡ turns_of (source n pool.now rows.now rulecount (level_tables levels.now priorities.now literals.now weights.now entrycount)) (query_tables level lowers.now wished.now spots.now assumed.now (tables_of cores.now)) budget (places lits.old marks.old value.old len) (blame_tables flags.old core.old from) }
+    requires prepared { Prepared (source n pool.now rows.now rulecount (levels_lent objective.now)) (index starts.now lists.now) (index headstarts.now headlists.now) tried.now }
+    ensures { turns (turned result.turning.turn (places lits.new marks.new value.new result.turning.len) (blame_tables flags.new core.new result.turning.from)) result.made ≡ turns_of (source n pool.now rows.now rulecount (levels_lent objective.now)) (query_tables level lowers.now wished.now spots.now assumed.now (tables_of cores.now)) budget (places lits.old marks.old value.old len) (blame_tables flags.old core.old from) }
 {
     let mut key = [0u16; 2048];
     let m = fill::fill(pool, rows, rulecount, starts, lists, value, &mut key);
     turn::turns(
-        n, pool, rows, rulecount, levels, priorities, literals, weights, entrycount, level, lowers,
+        n, pool, rows, rulecount, objective, level, lowers,
         tried, wished, spots, assumed, cores, starts, lists, headstarts, headlists, lits, marks,
         value, &mut key, flags, core, len, from, m, budget,
     )
@@ -75,13 +71,9 @@ fn run_lent<'a>(
 fn run_columns<'a>(
     n: usize,
     pool: &'a [i32],
-    rows: &'a [u16],
+    rows: &'a [Row],
     rulecount: usize,
-    levels: &'a [i32],
-    priorities: &'a [i32],
-    literals: &'a [i32],
-    weights: &'a [i32],
-    entrycount: usize,
+    objective: &'a Objective<'a>,
     level: usize,
     lowers: &'a [i64; 8],
     stratum: u32,
@@ -100,12 +92,12 @@ fn run_columns<'a>(
     from: usize,
     budget: u32,
 ) -> Steps
-    requires ready_query { ReadyQuery (source n pool.now rows.now rulecount (level_tables levels.now priorities.now literals.now weights.now entrycount)) (query_by level lowers.now (tables_of cores.now) (rests_of cores.now.softs.now) stratum) }
+    requires ready_query { ReadyQuery (source n pool.now rows.now rulecount (levels_lent objective.now)) (query_by level lowers.now (tables_of cores.now) (rests_of cores.now.softs.now) stratum) }
     requires good_blame { GoodBlame (query_by level lowers.now (tables_of cores.now) (rests_of cores.now.softs.now) stratum) (blame_tables flags.old core.old from) }
     requires sound_trail { SoundTrail n (places lits.old marks.old value.old len) }
     requires softs_few { length cores.now.softs.now ≤ 4096 }
-    requires prepared { Prepared (source n pool.now rows.now rulecount (level_tables levels.now priorities.now literals.now weights.now entrycount)) (index starts.now lists.now) (index headstarts.now headlists.now) tried.now }
-    ensures { turns (turned result.turning.turn (places lits.new marks.new value.new result.turning.len) (blame_tables flags.new core.new result.turning.from)) result.made ≡ turns_of (source n pool.now rows.now rulecount (level_tables levels.now priorities.now literals.now weights.now entrycount)) (query_by level lowers.now (tables_of cores.now) (rests_of cores.now.softs.now) stratum) budget (places lits.old marks.old value.old len) (blame_tables flags.old core.old from) }
+    requires prepared { Prepared (source n pool.now rows.now rulecount (levels_lent objective.now)) (index starts.now lists.now) (index headstarts.now headlists.now) tried.now }
+    ensures { turns (turned result.turning.turn (places lits.new marks.new value.new result.turning.len) (blame_tables flags.new core.new result.turning.from)) result.made ≡ turns_of (source n pool.now rows.now rulecount (levels_lent objective.now)) (query_by level lowers.now (tables_of cores.now) (rests_of cores.now.softs.now) stratum) budget (places lits.old marks.old value.old len) (blame_tables flags.old core.old from) }
 {
     let mut assumed = [0u16; 4096];
     let mut spots = [0u16; 4096];
@@ -117,11 +109,7 @@ fn run_columns<'a>(
         pool,
         rows,
         rulecount,
-        levels,
-        priorities,
-        literals,
-        weights,
-        entrycount,
+        objective,
         level,
         lowers,
         &wished[..k],
@@ -148,13 +136,9 @@ fn run_columns<'a>(
 pub fn run_query<'a>(
     n: usize,
     pool: &'a [i32],
-    rows: &'a [u16],
+    rows: &'a [Row],
     rulecount: usize,
-    levels: &'a [i32],
-    priorities: &'a [i32],
-    literals: &'a [i32],
-    weights: &'a [i32],
-    entrycount: usize,
+    objective: &'a Objective<'a>,
     starts: &'a [u16],
     lists: &'a [u16],
     headstarts: &'a [u16],
@@ -170,17 +154,17 @@ pub fn run_query<'a>(
     from: usize,
     budget: u32,
 ) -> Asked
-    requires ready_query { ReadyQuery (source n pool.now rows.now rulecount (level_tables levels.now priorities.now literals.now weights.now entrycount)) (work_query w) }
+    requires ready_query { ReadyQuery (source n pool.now rows.now rulecount (levels_lent objective.now)) (work_query w) }
     requires good_blame { GoodBlame (work_query w) (blame_tables flags.old core.old from) }
     requires sound_trail { SoundTrail n (places lits.old marks.old value.old len) }
     requires sound_tables { SoundTables w.tables }
-    requires prepared { Prepared (source n pool.now rows.now rulecount (level_tables levels.now priorities.now literals.now weights.now entrycount)) (index starts.now lists.now) (index headstarts.now headlists.now) tried.now }
-    ensures { (turns (turned result.steps.turning.turn (places lits.new marks.new value.new result.steps.turning.len) (blame_tables flags.new core.new result.steps.turning.from)) result.steps.made ≡ turns_of (source n pool.now rows.now rulecount (level_tables levels.now priorities.now literals.now weights.now entrycount)) (work_query w) budget (places lits.old marks.old value.old len) (blame_tables flags.old core.old from)) × (result.below ≡ under w.stratum (level_of w.tables).rests) }
+    requires prepared { Prepared (source n pool.now rows.now rulecount (levels_lent objective.now)) (index starts.now lists.now) (index headstarts.now headlists.now) tried.now }
+    ensures { (turns (turned result.steps.turning.turn (places lits.new marks.new value.new result.steps.turning.len) (blame_tables flags.new core.new result.steps.turning.from)) result.steps.made ≡ turns_of (source n pool.now rows.now rulecount (levels_lent objective.now)) (work_query w) budget (places lits.old marks.old value.old len) (blame_tables flags.old core.old from)) × (result.below ≡ under w.stratum (level_of w.tables).rests) }
 {
     let cores = Cores::of(&w.tables);
     let lowers = w.lowers;
     let steps = run_columns(
-        n, pool, rows, rulecount, levels, priorities, literals, weights, entrycount, w.level,
+        n, pool, rows, rulecount, objective, w.level,
         &lowers, w.stratum, &cores, starts, lists, headstarts, headlists, tried, lits, marks,
         value, flags, core, len, from, budget,
     );

@@ -1,6 +1,6 @@
 // Advances of an optimization.
 ghost use Rattle.std.specs.Prelude.{◌≡◌, pos, replicate};
-ghost use Rattle.advancing.specs.Source.{level_tables, source, FormedLevels, Prepared};
+ghost use Rattle.advancing.specs.Source.{levels_lent, source, FormedLevels, Prepared};
 ghost use Rattle.search.specs.Places.{places};
 ghost use Rattle.advancing.specs.Turn.{blame_tables, is_going};
 ghost use Rattle.counting.specs.Counters.{index};
@@ -72,13 +72,9 @@ fn stopped(
 pub fn run<'a>(
     n: usize,
     pool: &'a [i32],
-    rows: &'a [u16],
+    rows: &'a [Row],
     rulecount: usize,
-    levels: &'a [i32],
-    priorities: &'a [i32],
-    literals: &'a [i32],
-    weights: &'a [i32],
-    entrycount: usize,
+    objective: &'a Objective<'a>,
     starts: &'a [u16],
     lists: &'a [u16],
     headstarts: &'a [u16],
@@ -87,9 +83,9 @@ pub fn run<'a>(
     start: Search,
     budget: u32,
 ) -> Advanced
-    requires reached { Reached (source n pool.now rows.now rulecount (level_tables levels.now priorities.now literals.now weights.now entrycount)) start }
-    requires prepared { Prepared (source n pool.now rows.now rulecount (level_tables levels.now priorities.now literals.now weights.now entrycount)) (index starts.now lists.now) (index headstarts.now headlists.now) tried.now }
-    ensures { after_run result.search result.made ≡ run_of (source n pool.now rows.now rulecount (level_tables levels.now priorities.now literals.now weights.now entrycount)) budget start }
+    requires reached { Reached (source n pool.now rows.now rulecount (levels_lent objective.now)) start }
+    requires prepared { Prepared (source n pool.now rows.now rulecount (levels_lent objective.now)) (index starts.now lists.now) (index headstarts.now headlists.now) tried.now }
+    ensures { after_run result.search result.made ≡ run_of (source n pool.now rows.now rulecount (levels_lent objective.now)) budget start }
 {
     let mut phase = start.phase;
     let mut advances = start.advances;
@@ -115,11 +111,7 @@ pub fn run<'a>(
             pool,
             rows,
             rulecount,
-            levels,
-            priorities,
-            literals,
-            weights,
-            entrycount,
+            objective,
             starts,
             lists,
             headstarts,
@@ -154,13 +146,13 @@ pub fn run<'a>(
             work = finish::recorded(work, blamed);
         }
         let e = finish::finish(
-            levels, priorities, literals, weights, entrycount, phase, recorded, work, q.below,
+            objective, phase, recorded, work, q.below,
             value, turn,
         );
         phase = e.phase;
         work = finish::standing(work, e);
         if e.opens {
-            work = finish::begun(levels, priorities, literals, weights, entrycount, work);
+            work = finish::begun(objective, work);
         }
         lits = [0; 1024];
         marks = [0; 1024];
@@ -179,13 +171,9 @@ pub fn run<'a>(
 pub fn advance<'a>(
     n: usize,
     pool: &'a [i32],
-    rows: &'a [u16],
+    rows: &'a [Row],
     rulecount: usize,
-    levels: &'a [i32],
-    priorities: &'a [i32],
-    literals: &'a [i32],
-    weights: &'a [i32],
-    entrycount: usize,
+    objective: &'a Objective<'a>,
     starts: &'a [u16],
     lists: &'a [u16],
     headstarts: &'a [u16],
@@ -193,12 +181,12 @@ pub fn advance<'a>(
     tried: &'a [u8; 1025],
     s: Search,
 ) -> Search
-    requires reached { Reached (source n pool.now rows.now rulecount (level_tables levels.now priorities.now literals.now weights.now entrycount)) s }
-    requires prepared { Prepared (source n pool.now rows.now rulecount (level_tables levels.now priorities.now literals.now weights.now entrycount)) (index starts.now lists.now) (index headstarts.now headlists.now) tried.now }
-    ensures { result ≡ advance_of (source n pool.now rows.now rulecount (level_tables levels.now priorities.now literals.now weights.now entrycount)) s }
+    requires reached { Reached (source n pool.now rows.now rulecount (levels_lent objective.now)) s }
+    requires prepared { Prepared (source n pool.now rows.now rulecount (levels_lent objective.now)) (index starts.now lists.now) (index headstarts.now headlists.now) tried.now }
+    ensures { result ≡ advance_of (source n pool.now rows.now rulecount (levels_lent objective.now)) s }
 {
     let r = run(
-        n, pool, rows, rulecount, levels, priorities, literals, weights, entrycount, starts, lists,
+        n, pool, rows, rulecount, objective, starts, lists,
         headstarts, headlists, tried, s, 1,
     );
     r.search
@@ -233,19 +221,15 @@ pub fn fresh() -> Search
 
 // That of a program: each lower bound starts at the sum of its level's negative weights.
 pub fn fresh_for<'a>(
-    levels: &'a [i32],
-    priorities: &'a [i32],
-    literals: &'a [i32],
-    weights: &'a [i32],
-    entrycount: usize,
+    objective: &'a Objective<'a>,
 ) -> Search
-    requires { FormedLevels (level_tables levels.now priorities.now literals.now weights.now entrycount) }
-    ensures { result ≡ fresh_for (level_tables levels.now priorities.now literals.now weights.now entrycount) }
+    requires { FormedLevels (levels_lent objective.now) }
+    ensures { result ≡ fresh_for (levels_lent objective.now) }
 {
     let mut starts = [0i64; 8];
     asp::cost::level_starts(
         levels,
-        levels.len(),
+        objective.levels.len(),
         priorities,
         literals,
         weights,

@@ -5,7 +5,7 @@ ghost use Rattle.search.specs.Scan.{rules};
 ghost use Rattle.counting.specs.Counters.{index, counters};
 ghost use Rattle.indexing.specs.Leaf.{Leaf, Equipped};
 ghost use Rattle.judging.specs.Lent.{tables_of};
-ghost use Rattle.advancing.specs.Source.{level_tables, source, Tries};
+ghost use Rattle.advancing.specs.Source.{levels_lent, source, Tries};
 ghost use Rattle.advancing.specs.Turn.{query_tables, blame_tables, turned, turn_of, turns, turns_of, judged_turn, judge_full, blamed_of, is_going};
 ghost use Rattle.advancing.specs.Ready.{ReadyQuery, GoodBlame};
 ghost use Rattle.optimizer.specs.Turning.{backed_to};
@@ -54,13 +54,9 @@ fn backed(k: usize, from: usize) -> Turning
 fn judged<'a>(
     n: usize,
     pool: &'a [i32],
-    rows: &'a [u16],
+    rows: &'a [Row],
     rulecount: usize,
-    levels: &'a [i32],
-    priorities: &'a [i32],
-    literals: &'a [i32],
-    weights: &'a [i32],
-    entrycount: usize,
+    objective: &'a Objective<'a>,
     level: usize,
     lowers: &'a [i64; 8],
     wished: &'a [i32],
@@ -81,23 +77,18 @@ fn judged<'a>(
     from: usize,
     m: Marks,
 ) -> Tracked
-    requires ready_query { ReadyQuery (source n pool.now rows.now rulecount (level_tables levels.now priorities.now literals.now weights.now entrycount)) (query_tables level lowers.now wished.now spots.now assumed.now (tables_of cores.now)) }
+    requires ready_query { ReadyQuery (source n pool.now rows.now rulecount (levels_lent objective.now)) (query_tables level lowers.now wished.now spots.now assumed.now (tables_of cores.now)) }
     requires good_blame { GoodBlame (query_tables level lowers.now wished.now spots.now assumed.now (tables_of cores.now)) (blame_tables flags.old core.old from) }
     requires sound_trail { SoundTrail n (places lits.old marks.old value.old len) }
     requires leaf { Leaf (rules pool.now rows.now rulecount) n (index starts.now lists.now) (index headstarts.now headlists.now) value.old (counters key.old m) }
-    ensures { (turned result.turning.turn (places lits.new marks.new value.new result.turning.len) (blame_tables flags.new core.new result.turning.from) ≡ judged_turn (query_tables level lowers.now wished.now spots.now assumed.now (tables_of cores.now)) (places lits.old marks.old value.old len) (blame_tables flags.old core.old from) (judge_full (source n pool.now rows.now rulecount (level_tables levels.now priorities.now literals.now weights.now entrycount)) (query_tables level lowers.now wished.now spots.now assumed.now (tables_of cores.now)) (blamed_of (blame_tables flags.old core.old from)) value.old)) × Equipped (rules pool.now rows.now rulecount) (index starts.now lists.now) (index headstarts.now headlists.now) value.new (counters key.new result.marks) }
+    ensures { (turned result.turning.turn (places lits.new marks.new value.new result.turning.len) (blame_tables flags.new core.new result.turning.from) ≡ judged_turn (query_tables level lowers.now wished.now spots.now assumed.now (tables_of cores.now)) (places lits.old marks.old value.old len) (blame_tables flags.old core.old from) (judge_full (source n pool.now rows.now rulecount (levels_lent objective.now)) (query_tables level lowers.now wished.now spots.now assumed.now (tables_of cores.now)) (blamed_of (blame_tables flags.old core.old from)) value.old)) × Equipped (rules pool.now rows.now rulecount) (index starts.now lists.now) (index headstarts.now headlists.now) value.new (counters key.new result.marks) }
 {
     let j = judge::judge_full(
         n,
         pool,
         rows,
         rulecount,
-        levels,
-        level,
-        priorities,
-        literals,
-        weights,
-        entrycount,
+        objective, level,
         lowers,
         assumed,
         cores,
@@ -151,13 +142,9 @@ fn judged<'a>(
 pub fn turn<'a>(
     n: usize,
     pool: &'a [i32],
-    rows: &'a [u16],
+    rows: &'a [Row],
     rulecount: usize,
-    levels: &'a [i32],
-    priorities: &'a [i32],
-    literals: &'a [i32],
-    weights: &'a [i32],
-    entrycount: usize,
+    objective: &'a Objective<'a>,
     level: usize,
     lowers: &'a [i64; 8],
     tried: &'a [u8; 1025],
@@ -179,12 +166,12 @@ pub fn turn<'a>(
     from: usize,
     m: Marks,
 ) -> Tracked
-    requires ready_query { ReadyQuery (source n pool.now rows.now rulecount (level_tables levels.now priorities.now literals.now weights.now entrycount)) (query_tables level lowers.now wished.now spots.now assumed.now (tables_of cores.now)) }
+    requires ready_query { ReadyQuery (source n pool.now rows.now rulecount (levels_lent objective.now)) (query_tables level lowers.now wished.now spots.now assumed.now (tables_of cores.now)) }
     requires good_blame { GoodBlame (query_tables level lowers.now wished.now spots.now assumed.now (tables_of cores.now)) (blame_tables flags.old core.old from) }
     requires sound_trail { SoundTrail n (places lits.old marks.old value.old len) }
     requires equipped { Equipped (rules pool.now rows.now rulecount) (index starts.now lists.now) (index headstarts.now headlists.now) value.old (counters key.old m) }
-    requires tries { Tries (source n pool.now rows.now rulecount (level_tables levels.now priorities.now literals.now weights.now entrycount)) tried.now }
-    ensures { (turned result.turning.turn (places lits.new marks.new value.new result.turning.len) (blame_tables flags.new core.new result.turning.from) ≡ turn_of (source n pool.now rows.now rulecount (level_tables levels.now priorities.now literals.now weights.now entrycount)) (query_tables level lowers.now wished.now spots.now assumed.now (tables_of cores.now)) (places lits.old marks.old value.old len) (blame_tables flags.old core.old from)) × Equipped (rules pool.now rows.now rulecount) (index starts.now lists.now) (index headstarts.now headlists.now) value.new (counters key.new result.marks) }
+    requires tries { Tries (source n pool.now rows.now rulecount (levels_lent objective.now)) tried.now }
+    ensures { (turned result.turning.turn (places lits.new marks.new value.new result.turning.len) (blame_tables flags.new core.new result.turning.from) ≡ turn_of (source n pool.now rows.now rulecount (levels_lent objective.now)) (query_tables level lowers.now wished.now spots.now assumed.now (tables_of cores.now)) (places lits.old marks.old value.old len) (blame_tables flags.old core.old from)) × Equipped (rules pool.now rows.now rulecount) (index starts.now lists.now) (index headstarts.now headlists.now) value.new (counters key.new result.marks) }
 {
     let o = machine::step(
         pool,
@@ -234,7 +221,7 @@ pub fn turn<'a>(
             marks: q,
         },
         Tested::Full => judged(
-            n, pool, rows, rulecount, levels, priorities, literals, weights, entrycount, level,
+            n, pool, rows, rulecount, objective, level,
             lowers, wished, spots, assumed, cores, starts, lists, headstarts, headlists, lits,
             marks, value, key, flags, core, k, from, q,
         ),
@@ -252,13 +239,9 @@ pub struct Steps {
 pub fn turns<'a>(
     n: usize,
     pool: &'a [i32],
-    rows: &'a [u16],
+    rows: &'a [Row],
     rulecount: usize,
-    levels: &'a [i32],
-    priorities: &'a [i32],
-    literals: &'a [i32],
-    weights: &'a [i32],
-    entrycount: usize,
+    objective: &'a Objective<'a>,
     level: usize,
     lowers: &'a [i64; 8],
     tried: &'a [u8; 1025],
@@ -281,12 +264,12 @@ pub fn turns<'a>(
     m: Marks,
     budget: u32,
 ) -> Steps
-    requires ready_query { ReadyQuery (source n pool.now rows.now rulecount (level_tables levels.now priorities.now literals.now weights.now entrycount)) (query_tables level lowers.now wished.now spots.now assumed.now (tables_of cores.now)) }
+    requires ready_query { ReadyQuery (source n pool.now rows.now rulecount (levels_lent objective.now)) (query_tables level lowers.now wished.now spots.now assumed.now (tables_of cores.now)) }
     requires good_blame { GoodBlame (query_tables level lowers.now wished.now spots.now assumed.now (tables_of cores.now)) (blame_tables flags.old core.old first) }
     requires sound_trail { SoundTrail n (places lits.old marks.old value.old start) }
     requires equipped { Equipped (rules pool.now rows.now rulecount) (index starts.now lists.now) (index headstarts.now headlists.now) value.old (counters key.old m) }
-    requires tries { Tries (source n pool.now rows.now rulecount (level_tables levels.now priorities.now literals.now weights.now entrycount)) tried.now }
-    ensures { turns (turned result.turning.turn (places lits.new marks.new value.new result.turning.len) (blame_tables flags.new core.new result.turning.from)) result.made ≡ turns_of (source n pool.now rows.now rulecount (level_tables levels.now priorities.now literals.now weights.now entrycount)) (query_tables level lowers.now wished.now spots.now assumed.now (tables_of cores.now)) budget (places lits.old marks.old value.old start) (blame_tables flags.old core.old first) }
+    requires tries { Tries (source n pool.now rows.now rulecount (levels_lent objective.now)) tried.now }
+    ensures { turns (turned result.turning.turn (places lits.new marks.new value.new result.turning.len) (blame_tables flags.new core.new result.turning.from)) result.made ≡ turns_of (source n pool.now rows.now rulecount (levels_lent objective.now)) (query_tables level lowers.now wished.now spots.now assumed.now (tables_of cores.now)) budget (places lits.old marks.old value.old start) (blame_tables flags.old core.old first) }
 {
     let mut len = start;
     let mut from = first;
@@ -294,7 +277,7 @@ pub fn turns<'a>(
     let mut made: u32 = 0;
     while made < budget {
         let x = turn(
-            n, pool, rows, rulecount, levels, priorities, literals, weights, entrycount, level,
+            n, pool, rows, rulecount, objective, level,
             lowers, tried, wished, spots, assumed, cores, starts, lists, headstarts, headlists,
             lits, marks, value, key, flags, core, len, from, at,
         );

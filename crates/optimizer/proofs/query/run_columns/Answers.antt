@@ -6,7 +6,7 @@ use Rattle.asp.specs.Program.{All}
 use Rattle.search.specs.Places.{places}
 use Rattle.cores.specs.Columns.{literals_of, cores_of, indices_of}
 use Rattle.cores.proofs.Lent.{cut_long}
-use Rattle.advancing.specs.Source.{source, level_tables}
+use Rattle.advancing.specs.Source.{source, levels_lent}
 use Rattle.advancing.specs.Turn.{QueryTables, blame_tables, turns_of}
 use Rattle.advancing.specs.Ready.{ReadyQuery, GoodBlame}
 use Rattle.optimizer.proofs.Fronts.{rests_few, softs_inside, assumed_is, assumed_reach, spots_reach, wished_reach, fronts_query}
@@ -61,18 +61,18 @@ slice_bounds-run_lent-end-3 c =
 
 pub run_lent-requires-clause-ready_query : goal.run_lent-requires-clause-ready_query
 run_lent-requires-clause-ready_query c =
-    let S = source c.args.n c.args.pool.now c.args.rows.now c.args.rulecount (level_tables c.args.levels.now c.args.priorities.now c.args.literals.now c.args.weights.now c.args.entrycount) in
+    let S = source c.args.n c.args.pool.now c.args.rows.now c.args.rulecount (levels_lent c.args.objective.now) in
     let q = fronts_query _ _ (rests_few c.args.cores.now.softs.now c.requires.softs_few) c.assumed-m.ensures (literals_of c.args.cores.now.softs.now) (cores_of c.args.cores.now.softs.now) c.entries-k.ensures c.args.level c.args.lowers.now (indices_of c.args.cores.now.softs.now) c.args.cores.now.ends.now c.args.cores.now.members.now in
     subst (λ (x : QueryTables). ReadyQuery S x) (sym q) c.requires.ready_query
 
 pub run_lent-requires-clause-good_blame : goal.run_lent-requires-clause-good_blame
 run_lent-requires-clause-good_blame c =
-    let S = source c.args.n c.args.pool.now c.args.rows.now c.args.rulecount (level_tables c.args.levels.now c.args.priorities.now c.args.literals.now c.args.weights.now c.args.entrycount) in
+    let S = source c.args.n c.args.pool.now c.args.rows.now c.args.rulecount (levels_lent c.args.objective.now) in
     let q = fronts_query _ _ (rests_few c.args.cores.now.softs.now c.requires.softs_few) c.assumed-m.ensures (literals_of c.args.cores.now.softs.now) (cores_of c.args.cores.now.softs.now) c.entries-k.ensures c.args.level c.args.lowers.now (indices_of c.args.cores.now.softs.now) c.args.cores.now.ends.now c.args.cores.now.members.now in
     subst (λ (x : QueryTables). GoodBlame x (blame_tables c.args.flags.now c.args.core.now c.args.from)) (sym q) c.requires.good_blame
 
 pub returns : goal.returns
 returns c =
-    let S = source c.args.n c.args.pool.now c.args.rows.now c.args.rulecount (level_tables c.args.levels.now c.args.priorities.now c.args.literals.now c.args.weights.now c.args.entrycount) in
+    let S = source c.args.n c.args.pool.now c.args.rows.now c.args.rulecount (levels_lent c.args.objective.now) in
     let q = fronts_query _ _ (rests_few c.args.cores.now.softs.now c.requires.softs_few) c.assumed-m.ensures (literals_of c.args.cores.now.softs.now) (cores_of c.args.cores.now.softs.now) c.entries-k.ensures c.args.level c.args.lowers.now (indices_of c.args.cores.now.softs.now) c.args.cores.now.ends.now c.args.cores.now.members.now in
     c.run_lent.ensures ∙ ap (λ (x : QueryTables). turns_of S x c.args.budget (places c.args.lits.now c.args.marks.now c.args.value.now c.args.len) (blame_tables c.args.flags.now c.args.core.now c.args.from)) q

@@ -1,7 +1,7 @@
 use mathlib.Core.Path.{sym, ap, ◌∙◌, subst}
 use Rattle.search.specs.Places.{places}
 use Rattle.cores.proofs.Lent.{lent_few}
-use Rattle.advancing.specs.Source.{source, level_tables}
+use Rattle.advancing.specs.Source.{source, levels_lent}
 use Rattle.advancing.specs.Turn.{QueryTables, blame_tables, turns_of}
 use Rattle.advancing.specs.Ready.{ReadyQuery, GoodBlame}
 use Rattle.optimizer.proofs.Fronts.{lent_query}
@@ -11,7 +11,7 @@ pub run_columns-steps-requires-clause-ready_query : goal.run_columns-steps-requi
 run_columns-steps-requires-clause-ready_query c =
     let e = c.of-cores.ensures in
     let w = c.args.w in
-    let S = source c.args.n c.args.pool.now c.args.rows.now c.args.rulecount (level_tables c.args.levels.now c.args.priorities.now c.args.literals.now c.args.weights.now c.args.entrycount) in
+    let S = source c.args.n c.args.pool.now c.args.rows.now c.args.rulecount (levels_lent c.args.objective.now) in
     subst (λ (x : QueryTables). ReadyQuery S x) (sym (lent_query w.tables e.softs e.ends e.members w.level w.stratum w.lowers)) c.requires.ready_query
 
 pub run_columns-steps-requires-clause-good_blame : goal.run_columns-steps-requires-clause-good_blame
@@ -27,7 +27,7 @@ pub returns : goal.returns
 returns c =
     let e = c.of-cores.ensures in
     let w = c.args.w in
-    let S = source c.args.n c.args.pool.now c.args.rows.now c.args.rulecount (level_tables c.args.levels.now c.args.priorities.now c.args.literals.now c.args.weights.now c.args.entrycount) in
+    let S = source c.args.n c.args.pool.now c.args.rows.now c.args.rulecount (levels_lent c.args.objective.now) in
     let q = lent_query w.tables e.softs e.ends e.members w.level w.stratum w.lowers in (
       c.run_columns-steps.ensures ∙ ap (λ (x : QueryTables). turns_of S x c.args.budget (places c.args.lits.now c.args.marks.now c.args.value.now c.args.len) (blame_tables c.args.flags.now c.args.core.now c.args.from)) q,
       rw e.softs at c.next_stratum-below.ensures,

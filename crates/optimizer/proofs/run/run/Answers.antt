@@ -7,7 +7,7 @@ use lib.ListN.{length}
 use Rattle.asp.specs.Sets.{pick}
 use Rattle.search.specs.Places.{places}
 use Rattle.cores.specs.Tables.{Counted}
-use Rattle.advancing.specs.Source.{source, level_tables}
+use Rattle.advancing.specs.Source.{source, levels_lent}
 use Rattle.advancing.specs.Turn.{blame_tables}
 use Rattle.advancing.specs.State.{search as searchOf}
 use Rattle.advancing.specs.Finish.{begun_at}
@@ -57,17 +57,17 @@ returns-then-is_going c = c.stopped-then-is_going.ensures ∙ step_going c.loop-
 
 pub blamed-blamed-requires : goal.blamed-blamed-requires
 blamed-blamed-requires c =
-    let ready_at : ReadyRun (source c.args.n c.args.pool.now c.args.rows.now c.args.rulecount (level_tables c.args.levels.now c.args.priorities.now c.args.literals.now c.args.weights.now c.args.entrycount)) (c.args.budget - c.loop-made.made) (searchOf c.loop-made.phase c.loop-made.advances (places c.loop-made.lits c.loop-made.marks c.loop-made.value c.loop-made.len) (blame_tables c.loop-made.flags c.loop-made.core c.loop-made.from) c.loop-made.work) = running_ready c.loop-made.invariant (reached_steady c.requires.reached) (c.args.budget - c.loop-made.made) in
+    let ready_at : ReadyRun (source c.args.n c.args.pool.now c.args.rows.now c.args.rulecount (levels_lent c.args.objective.now)) (c.args.budget - c.loop-made.made) (searchOf c.loop-made.phase c.loop-made.advances (places c.loop-made.lits c.loop-made.marks c.loop-made.value c.loop-made.len) (blame_tables c.loop-made.flags c.loop-made.core c.loop-made.from) c.loop-made.work) = running_ready c.loop-made.invariant (reached_steady c.requires.reached) (c.args.budget - c.loop-made.made) in
     core_reach ready_at c.run_query-q.ensures.0
 
 pub records-recorded-requires : goal.records-recorded-requires
 records-recorded-requires c =
-    let ready_at : ReadyRun (source c.args.n c.args.pool.now c.args.rows.now c.args.rulecount (level_tables c.args.levels.now c.args.priorities.now c.args.literals.now c.args.weights.now c.args.entrycount)) (c.args.budget - c.loop-made.made) (searchOf c.loop-made.phase c.loop-made.advances (places c.loop-made.lits c.loop-made.marks c.loop-made.value c.loop-made.len) (blame_tables c.loop-made.flags c.loop-made.core c.loop-made.from) c.loop-made.work) = running_ready c.loop-made.invariant (reached_steady c.requires.reached) (c.args.budget - c.loop-made.made) in
+    let ready_at : ReadyRun (source c.args.n c.args.pool.now c.args.rows.now c.args.rulecount (levels_lent c.args.objective.now)) (c.args.budget - c.loop-made.made) (searchOf c.loop-made.phase c.loop-made.advances (places c.loop-made.lits c.loop-made.marks c.loop-made.value c.loop-made.len) (blame_tables c.loop-made.flags c.loop-made.core c.loop-made.from) c.loop-made.work) = running_ready c.loop-made.invariant (reached_steady c.requires.reached) (c.args.budget - c.loop-made.made) in
     λ p x. subst (λ (ms : List ℕ). Counted c.loop-made.work.tables (length ms)) (sym c.blamed-blamed.ensures) (core_ready ready_at c.run_query-q.ensures.0 p x).counted
 
 pub recorded-work-requires : goal.recorded-work-requires
 recorded-work-requires c =
-    let ready_at : ReadyRun (source c.args.n c.args.pool.now c.args.rows.now c.args.rulecount (level_tables c.args.levels.now c.args.priorities.now c.args.literals.now c.args.weights.now c.args.entrycount)) (c.args.budget - c.loop-made.made) (searchOf c.loop-made.phase c.loop-made.advances (places c.loop-made.lits c.loop-made.marks c.loop-made.value c.loop-made.len) (blame_tables c.loop-made.flags c.loop-made.core c.loop-made.from) c.loop-made.work) = running_ready c.loop-made.invariant (reached_steady c.requires.reached) (c.args.budget - c.loop-made.made) in
+    let ready_at : ReadyRun (source c.args.n c.args.pool.now c.args.rows.now c.args.rulecount (levels_lent c.args.objective.now)) (c.args.budget - c.loop-made.made) (searchOf c.loop-made.phase c.loop-made.advances (places c.loop-made.lits c.loop-made.marks c.loop-made.value c.loop-made.len) (blame_tables c.loop-made.flags c.loop-made.core c.loop-made.from) c.loop-made.work) = running_ready c.loop-made.invariant (reached_steady c.requires.reached) (c.args.budget - c.loop-made.made) in
     let r = ready_at in
     let s = c.loop-made in
     let x = c.run_query-q.result.steps.turning.turn in
@@ -81,7 +81,7 @@ recorded-work-requires c =
 
 pub finish-e-requires : goal.finish-e-requires
 finish-e-requires c =
-    let ready_at : ReadyRun (source c.args.n c.args.pool.now c.args.rows.now c.args.rulecount (level_tables c.args.levels.now c.args.priorities.now c.args.literals.now c.args.weights.now c.args.entrycount)) (c.args.budget - c.loop-made.made) (searchOf c.loop-made.phase c.loop-made.advances (places c.loop-made.lits c.loop-made.marks c.loop-made.value c.loop-made.len) (blame_tables c.loop-made.flags c.loop-made.core c.loop-made.from) c.loop-made.work) = running_ready c.loop-made.invariant (reached_steady c.requires.reached) (c.args.budget - c.loop-made.made) in
+    let ready_at : ReadyRun (source c.args.n c.args.pool.now c.args.rows.now c.args.rulecount (levels_lent c.args.objective.now)) (c.args.budget - c.loop-made.made) (searchOf c.loop-made.phase c.loop-made.advances (places c.loop-made.lits c.loop-made.marks c.loop-made.value c.loop-made.len) (blame_tables c.loop-made.flags c.loop-made.core c.loop-made.from) c.loop-made.work) = running_ready c.loop-made.invariant (reached_steady c.requires.reached) (c.args.budget - c.loop-made.made) in
     let work_recorded : c.if-recorded.work ≡ pick c.records-recorded.result (recorded_work c.loop-made.work c.blamed-blamed.result.now) c.loop-made.work = let w = c.loop-made.work in
     let u = recorded_work w c.blamed-blamed.result.now in
     elim c.if-recorded.branch [ then-recorded z ↦ joined_yes u w z.if-recorded.true (z.work-is ∙ z.recorded-work.ensures) | else-recorded z ↦ joined_no u w z.if-recorded.false z.work-is ] in
@@ -100,14 +100,14 @@ loop-made-smaller-then-e c =
 
 pub loop-made-preserved-then-e : goal.loop-made-preserved-then-e
 loop-made-preserved-then-e c =
-    let ready_at : ReadyRun (source c.args.n c.args.pool.now c.args.rows.now c.args.rulecount (level_tables c.args.levels.now c.args.priorities.now c.args.literals.now c.args.weights.now c.args.entrycount)) (c.args.budget - c.loop-made.made) (searchOf c.loop-made.phase c.loop-made.advances (places c.loop-made.lits c.loop-made.marks c.loop-made.value c.loop-made.len) (blame_tables c.loop-made.flags c.loop-made.core c.loop-made.from) c.loop-made.work) = running_ready c.loop-made.invariant (reached_steady c.requires.reached) (c.args.budget - c.loop-made.made) in
+    let ready_at : ReadyRun (source c.args.n c.args.pool.now c.args.rows.now c.args.rulecount (levels_lent c.args.objective.now)) (c.args.budget - c.loop-made.made) (searchOf c.loop-made.phase c.loop-made.advances (places c.loop-made.lits c.loop-made.marks c.loop-made.value c.loop-made.len) (blame_tables c.loop-made.flags c.loop-made.core c.loop-made.from) c.loop-made.work) = running_ready c.loop-made.invariant (reached_steady c.requires.reached) (c.args.budget - c.loop-made.made) in
     let work_recorded : c.if-recorded.work ≡ pick c.records-recorded.result (recorded_work c.loop-made.work c.blamed-blamed.result.now) c.loop-made.work = let w = c.loop-made.work in
     let u = recorded_work w c.blamed-blamed.result.now in
     elim c.if-recorded.branch [ then-recorded z ↦ joined_yes u w z.if-recorded.true (z.work-is ∙ z.recorded-work.ensures) | else-recorded z ↦ joined_no u w z.if-recorded.false z.work-is ] in
     let v = c.standing-work.result in
     step_next c.loop-made.invariant (reached_steady c.requires.reached) c.loop-made-test.true c.is_running.ensures c.if-not-is_running.false c.run_query-q.ensures.0
     (end_is ready_at c.run_query-q.ensures.0 (sym c.is_going.ensures ∙ c.if-is_going.false) c.counted-advances.ensures c.blamed-blamed.ensures c.records-recorded.ensures
-    work_recorded c.finish-e.ensures c.standing-work.ensures (joined_yes (begun_at (level_tables c.args.levels.now c.args.priorities.now c.args.literals.now c.args.weights.now c.args.entrycount) v v.level) v c.if-e.true c.begun-work.ensures) refl refl)
+    work_recorded c.finish-e.ensures c.standing-work.ensures (joined_yes (begun_at (levels_lent c.args.objective.now) v v.level) v c.if-e.true c.begun-work.ensures) refl refl)
 
 pub loop-made-smaller : goal.loop-made-smaller
 loop-made-smaller c =
@@ -116,14 +116,14 @@ loop-made-smaller c =
 
 pub loop-made-preserved : goal.loop-made-preserved
 loop-made-preserved c =
-    let ready_at : ReadyRun (source c.args.n c.args.pool.now c.args.rows.now c.args.rulecount (level_tables c.args.levels.now c.args.priorities.now c.args.literals.now c.args.weights.now c.args.entrycount)) (c.args.budget - c.loop-made.made) (searchOf c.loop-made.phase c.loop-made.advances (places c.loop-made.lits c.loop-made.marks c.loop-made.value c.loop-made.len) (blame_tables c.loop-made.flags c.loop-made.core c.loop-made.from) c.loop-made.work) = running_ready c.loop-made.invariant (reached_steady c.requires.reached) (c.args.budget - c.loop-made.made) in
+    let ready_at : ReadyRun (source c.args.n c.args.pool.now c.args.rows.now c.args.rulecount (levels_lent c.args.objective.now)) (c.args.budget - c.loop-made.made) (searchOf c.loop-made.phase c.loop-made.advances (places c.loop-made.lits c.loop-made.marks c.loop-made.value c.loop-made.len) (blame_tables c.loop-made.flags c.loop-made.core c.loop-made.from) c.loop-made.work) = running_ready c.loop-made.invariant (reached_steady c.requires.reached) (c.args.budget - c.loop-made.made) in
     let work_recorded : c.if-recorded.work ≡ pick c.records-recorded.result (recorded_work c.loop-made.work c.blamed-blamed.result.now) c.loop-made.work = let w = c.loop-made.work in
     let u = recorded_work w c.blamed-blamed.result.now in
     elim c.if-recorded.branch [ then-recorded z ↦ joined_yes u w z.if-recorded.true (z.work-is ∙ z.recorded-work.ensures) | else-recorded z ↦ joined_no u w z.if-recorded.false z.work-is ] in
     let v = c.standing-work.result in
     step_next c.loop-made.invariant (reached_steady c.requires.reached) c.loop-made-test.true c.is_running.ensures c.if-not-is_running.false c.run_query-q.ensures.0
     (end_is ready_at c.run_query-q.ensures.0 (sym c.is_going.ensures ∙ c.if-is_going.false) c.counted-advances.ensures c.blamed-blamed.ensures c.records-recorded.ensures
-    work_recorded c.finish-e.ensures c.standing-work.ensures (joined_no (begun_at (level_tables c.args.levels.now c.args.priorities.now c.args.literals.now c.args.weights.now c.args.entrycount) v v.level) v c.if-e.false refl) refl refl)
+    work_recorded c.finish-e.ensures c.standing-work.ensures (joined_no (begun_at (levels_lent c.args.objective.now) v v.level) v c.if-e.false refl) refl refl)
 
 pub returns : goal.returns
 returns c = c.stopped-2.ensures ∙ running_end c.loop-made.invariant c.loop-made-test.false

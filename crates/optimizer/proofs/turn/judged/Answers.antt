@@ -4,7 +4,7 @@ use Prim.Native.Nat.{ℕ, ◌<◌}
 use native.Mathlib.Omega.{arith}
 use Rattle.search.specs.Places.{places}
 use Rattle.judging.specs.Lent.{tables_of}
-use Rattle.advancing.specs.Source.{source, level_tables}
+use Rattle.advancing.specs.Source.{source, levels_lent}
 use Rattle.advancing.specs.Turn.{query_tables, blame_tables, judge_full, blamed_of}
 use Rattle.advancing.specs.Ready.{softs}
 use Rattle.advancing.proofs.Stepping.{blame_room, violated_in_lem}
@@ -14,7 +14,7 @@ use Rattle.optimizer.proofs.turn.judged.Goals as goal
 
 pub blame_place-f-requires : goal.blame_place-f-requires
 blame_place-f-requires c =
-    let S = source c.args.n c.args.pool.now c.args.rows.now c.args.rulecount (level_tables c.args.levels.now c.args.priorities.now c.args.literals.now c.args.weights.now c.args.entrycount) in
+    let S = source c.args.n c.args.pool.now c.args.rows.now c.args.rulecount (levels_lent c.args.objective.now) in
     let Q = query_tables c.args.level c.args.lowers.now c.args.wished.now c.args.spots.now c.args.assumed.now (tables_of c.args.cores.now) in
     let A = blame_tables c.args.flags.now c.args.core.now c.args.from in
     let found : c.judge_full-j.result ≡ judge_full S Q (blamed_of A) c.args.value.now = c.judge_full-j.ensures c.args.wished.now c.args.spots.now
@@ -26,7 +26,7 @@ blame_place-f-requires c =
 
 pub returns-in-Wanted : goal.returns-in-Wanted
 returns-in-Wanted c =
-    let S = source c.args.n c.args.pool.now c.args.rows.now c.args.rulecount (level_tables c.args.levels.now c.args.priorities.now c.args.literals.now c.args.weights.now c.args.entrycount) in
+    let S = source c.args.n c.args.pool.now c.args.rows.now c.args.rulecount (levels_lent c.args.objective.now) in
     let Q = query_tables c.args.level c.args.lowers.now c.args.wished.now c.args.spots.now c.args.assumed.now (tables_of c.args.cores.now) in
     let P = places c.args.lits.now c.args.marks.now c.args.value.now c.args.len in
     let A = blame_tables c.args.flags.now c.args.core.now c.args.from in
@@ -36,7 +36,7 @@ returns-in-Wanted c =
 
 pub returns-in-Dead : goal.returns-in-Dead
 returns-in-Dead c =
-    let S = source c.args.n c.args.pool.now c.args.rows.now c.args.rulecount (level_tables c.args.levels.now c.args.priorities.now c.args.literals.now c.args.weights.now c.args.entrycount) in
+    let S = source c.args.n c.args.pool.now c.args.rows.now c.args.rulecount (levels_lent c.args.objective.now) in
     let Q = query_tables c.args.level c.args.lowers.now c.args.wished.now c.args.spots.now c.args.assumed.now (tables_of c.args.cores.now) in
     let P = places c.args.lits.now c.args.marks.now c.args.value.now c.args.len in
     let A = blame_tables c.args.flags.now c.args.core.now c.args.from in
@@ -50,7 +50,7 @@ returns-in-Dead c =
 
 pub returns-in-Violated : goal.returns-in-Violated
 returns-in-Violated c =
-    let S = source c.args.n c.args.pool.now c.args.rows.now c.args.rulecount (level_tables c.args.levels.now c.args.priorities.now c.args.literals.now c.args.weights.now c.args.entrycount) in
+    let S = source c.args.n c.args.pool.now c.args.rows.now c.args.rulecount (levels_lent c.args.objective.now) in
     let Q = query_tables c.args.level c.args.lowers.now c.args.wished.now c.args.spots.now c.args.assumed.now (tables_of c.args.cores.now) in
     let P = places c.args.lits.now c.args.marks.now c.args.value.now c.args.len in
     let A = blame_tables c.args.flags.now c.args.core.now c.args.from in

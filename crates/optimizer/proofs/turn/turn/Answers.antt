@@ -6,7 +6,7 @@ use Rattle.search.specs.Places.{places}
 use Rattle.search.specs.Step.{Stepped}
 use Rattle.search.proofs.Kept.{after_step}
 use Rattle.judging.specs.Lent.{tables_of}
-use Rattle.advancing.specs.Source.{source, level_tables}
+use Rattle.advancing.specs.Source.{source, levels_lent}
 use Rattle.advancing.specs.Turn.{query_tables, blame_tables, assumed_by}
 use Rattle.advancing.specs.Ready.{softs}
 use Rattle.advancing.proofs.Stepping.{all_at, entry_room, soft_formed, violated_entry}
@@ -16,7 +16,7 @@ use Rattle.optimizer.proofs.turn.turn.Goals as goal
 
 pub blame_entry-f-requires : goal.blame_entry-f-requires
 blame_entry-f-requires c =
-    let S = source c.args.n c.args.pool.now c.args.rows.now c.args.rulecount (level_tables c.args.levels.now c.args.priorities.now c.args.literals.now c.args.weights.now c.args.entrycount) in
+    let S = source c.args.n c.args.pool.now c.args.rows.now c.args.rulecount (levels_lent c.args.objective.now) in
     let Q = query_tables c.args.level c.args.lowers.now c.args.wished.now c.args.spots.now c.args.assumed.now (tables_of c.args.cores.now) in
     let P = places c.args.lits.now c.args.marks.now c.args.value.now c.args.len in
     let A = blame_tables c.args.flags.now c.args.core.now c.args.from in
@@ -29,7 +29,7 @@ blame_entry-f-requires c =
 
 pub judged-requires-clause-leaf : goal.judged-requires-clause-leaf
 judged-requires-clause-leaf c =
-    let S = source c.args.n c.args.pool.now c.args.rows.now c.args.rulecount (level_tables c.args.levels.now c.args.priorities.now c.args.literals.now c.args.weights.now c.args.entrycount) in
+    let S = source c.args.n c.args.pool.now c.args.rows.now c.args.rulecount (levels_lent c.args.objective.now) in
     let Q = query_tables c.args.level c.args.lowers.now c.args.wished.now c.args.spots.now c.args.assumed.now (tables_of c.args.cores.now) in
     let P = places c.args.lits.now c.args.marks.now c.args.value.now c.args.len in
     let A = blame_tables c.args.flags.now c.args.core.now c.args.from in
@@ -39,7 +39,7 @@ judged-requires-clause-leaf c =
 
 pub returns-in-RuleBroken : goal.returns-in-RuleBroken
 returns-in-RuleBroken c =
-    let S = source c.args.n c.args.pool.now c.args.rows.now c.args.rulecount (level_tables c.args.levels.now c.args.priorities.now c.args.literals.now c.args.weights.now c.args.entrycount) in
+    let S = source c.args.n c.args.pool.now c.args.rows.now c.args.rulecount (levels_lent c.args.objective.now) in
     let Q = query_tables c.args.level c.args.lowers.now c.args.wished.now c.args.spots.now c.args.assumed.now (tables_of c.args.cores.now) in
     let P = places c.args.lits.now c.args.marks.now c.args.value.now c.args.len in
     let A = blame_tables c.args.flags.now c.args.core.now c.args.from in
@@ -51,7 +51,7 @@ returns-in-RuleBroken c =
 
 pub returns-in-SoftViolated : goal.returns-in-SoftViolated
 returns-in-SoftViolated c =
-    let S = source c.args.n c.args.pool.now c.args.rows.now c.args.rulecount (level_tables c.args.levels.now c.args.priorities.now c.args.literals.now c.args.weights.now c.args.entrycount) in
+    let S = source c.args.n c.args.pool.now c.args.rows.now c.args.rulecount (levels_lent c.args.objective.now) in
     let Q = query_tables c.args.level c.args.lowers.now c.args.wished.now c.args.spots.now c.args.assumed.now (tables_of c.args.cores.now) in
     let P = places c.args.lits.now c.args.marks.now c.args.value.now c.args.len in
     let A = blame_tables c.args.flags.now c.args.core.now c.args.from in
@@ -64,7 +64,7 @@ returns-in-SoftViolated c =
 
 pub returns-in-Open : goal.returns-in-Open
 returns-in-Open c =
-    let S = source c.args.n c.args.pool.now c.args.rows.now c.args.rulecount (level_tables c.args.levels.now c.args.priorities.now c.args.literals.now c.args.weights.now c.args.entrycount) in
+    let S = source c.args.n c.args.pool.now c.args.rows.now c.args.rulecount (levels_lent c.args.objective.now) in
     let Q = query_tables c.args.level c.args.lowers.now c.args.wished.now c.args.spots.now c.args.assumed.now (tables_of c.args.cores.now) in
     let P = places c.args.lits.now c.args.marks.now c.args.value.now c.args.len in
     let A = blame_tables c.args.flags.now c.args.core.now c.args.from in
@@ -72,7 +72,7 @@ returns-in-Open c =
 
 pub returns-in-Full : goal.returns-in-Full
 returns-in-Full c =
-    let S = source c.args.n c.args.pool.now c.args.rows.now c.args.rulecount (level_tables c.args.levels.now c.args.priorities.now c.args.literals.now c.args.weights.now c.args.entrycount) in
+    let S = source c.args.n c.args.pool.now c.args.rows.now c.args.rulecount (levels_lent c.args.objective.now) in
     let Q = query_tables c.args.level c.args.lowers.now c.args.wished.now c.args.spots.now c.args.assumed.now (tables_of c.args.cores.now) in
     let P = places c.args.lits.now c.args.marks.now c.args.value.now c.args.len in
     let A = blame_tables c.args.flags.now c.args.core.now c.args.from in

@@ -14,11 +14,8 @@ count-loop-k-preserved t c =
       | count-else-violated w ↦ count_no c.loop-k.invariant c.args.self.now.formed (omega arith) c.from.ensures c.violated.ensures c.violated.auto.counts w.if-violated.false w.n-is
     ]
 
-pub violated-holds-requires-clause-l_bound : goal.violated-holds-requires-clause-l_bound
-violated-holds-requires-clause-l_bound t c = literal_small _ _ _ c.args.self.now.formed _ c.requires.p_in_bounds c.soft_at-r.ensures
-
-pub violated-holds-requires-clause-l_in_bounds : goal.violated-holds-requires-clause-l_in_bounds
-violated-holds-requires-clause-l_in_bounds t c = omega (arith, literal_small _ _ _ c.args.self.now.formed _ c.requires.p_in_bounds c.soft_at-r.ensures)
+pub violated-holds-requires : goal.violated-holds-requires
+violated-holds-requires t c = literal_small _ _ _ c.args.self.now.formed _ c.requires.p_in_bounds c.soft_at-r.ensures
 
 pub violated-returns-then-j-eq0 : goal.violated-returns-then-j-eq0
 violated-returns-then-j-eq0 t c =
