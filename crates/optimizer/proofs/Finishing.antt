@@ -15,7 +15,7 @@ use Rattle.asp.specs.Sets.{pick}
 use Rattle.asp.specs.Literal.{same_ℤ}
 use Rattle.asp.specs.Cost.{level, cheaper}
 use Rattle.asp.specs.Penalty.{penalties}
-use Rattle.asp.proofs.Paying.{entry_atom}
+use Rattle.asp.specs.Tables.{entry_at}
 use Rattle.cores.specs.declared.level.LevelTables.{LevelTables}
 use Rattle.cores.specs.Level.{under, greatest, core_fits, FormedPenalties}
 use Rattle.cores.specs.Level as lev
@@ -81,8 +81,8 @@ module _ (L : Levels) (w : Work) (v : List ℕ) {x : List ℤ} {b : Bool} (e : x
 -- ---- a level is opened. Its priority, which goes from one call to the next, stands as `to_z w32 (of_z w32 p)`.
 
 -- the literals of the entries are small
-pub entries_small : (L : Levels) → FormedLevels L → (i : ℕ) → i < L.entrycount → nat_abs (get_or L.literals i (pos 0)) ≤ 1024
-entries_small L f = entry_atom f.entries
+pub entries_small : (L : Levels) → FormedLevels L → (i : ℕ) → i < length L.entries → nat_abs (entry_at L.entries i).literal ≤ 1024
+entries_small L f i h = (f.entries.atoms i h).1
 
 module _ (L : Levels) (j : ℕ) (f : FormedLevels L) {p : ℤ} (k : SFits w32 p) (e : p ≡ get_or L.levels j (pos 0)) {t : LevelTables} (o : t ≡ opened_tables (penalties (level (to_z w32 (of_z w32 p)) (entries_in L)))) where
   formed_at : FormedPenalties (penalties_at L j)

@@ -1,12 +1,16 @@
 -- Steps of a query and its end, as the code puts them together. Assumes nothing.
 use mathlib.Core.Path.{◌≡◌, refl, sym, ap, ap₂, ◌∙◌, subst}
 use mathlib.Core.Bool.{Bool, true, false}
-use mathlib.Core.List.{List}
+use mathlib.Core.List.{List, ◌++◌}
 use Prim.Native.Nat.{ℕ, zero, suc, ◌+◌, ◌-◌, ◌≤◌, ◌<◌}
 use native.Mathlib.Omega.{arith}
 use lib.IntN.{ℤ, pos}
-use lib.ListN.{length, replicate}
-use Rattle.asp.specs.Sets.{pick}
+use lib.ListN.{length, replicate, drop}
+use lib.Seq.{take-length}
+use Rattle.asp.specs.Sets.{set_of, pick}
+use Rattle.asp.specs.Cost.{costs_at, starts_at}
+use Rattle.asp.specs.Tables.{literals_at}
+use Rattle.asp.proofs.Spans.{span_part}
 use Rattle.search.specs.declared.trail.Places.{Places}
 use Rattle.search.specs.Places.{SoundTrail}
 use Rattle.cores.specs.Tables.{empty_tables}
@@ -19,11 +23,11 @@ use Rattle.advancing.specs.declared.state.Search.{Search}
 use Rattle.advancing.specs.declared.state.Turn.{Turn}
 use Rattle.advancing.specs.declared.state.Turn.TheVariants.{Without}
 use Rattle.optimizer.specs.declared.finish.Ending.{Ending}
-use Rattle.advancing.specs.Source.{Source}
+use Rattle.advancing.specs.Source.{Source, Levels, many}
 use Rattle.advancing.specs.Turn.{QueryTables, turned, Turns, turns, turn_of, turns_of, is_going, blamed_of}
 use Rattle.search.specs.Places.{fresh_places}
-use Rattle.advancing.specs.State.{work, fresh_search, search, fresh_blame, is_running}
-use Rattle.advancing.specs.Finish.{Placed, placed, begun_at, finish_of}
+use Rattle.advancing.specs.State.{work, fresh_search, fresh_for, search, fresh_blame, is_running}
+use Rattle.advancing.specs.Finish.{Placed, placed, begun_at, costs_of, finish_of}
 use Rattle.optimizer.specs.Ending.{records_of, recorded_work, finished_of, standing_of, Ends}
 use Rattle.advancing.specs.Advance.{ended_query, after_turns, work_query}
 use Rattle.advancing.specs.Ready.{ReadyQuery, GoodBlame, ReadyCore}
@@ -133,3 +137,14 @@ pub fresh_is : (lowers : List ℤ) {t : Places} → t ≡ fresh_places → {b : 
 fresh_is lowers e f {u} g =
     ap₂ (λ (t : Places) (b : Blame). search First 0 t b (work 0 u 0 lowers (replicate 8 (pos 0)) (replicate 1025 0))) e f
     ∙ ap (λ (u : LevelTables). search First 0 fresh_places fresh_blame (work 0 u 0 lowers (replicate 8 (pos 0)) (replicate 1025 0))) g
+
+-- ---- the priorities of all levels, as `advancing` lists them
+
+all_levels : (ls : List ℤ) → literals_at ls 0 (length ls) ≡ ls
+all_levels ls = sym (span_part ls (pos 0) 0 (length ls) (omega arith)) ∙ take-length ls
+
+pub costs_are : (L : Levels) (v : List ℕ) {x : List ℤ} → x ≡ costs_at (set_of v) L.levels L.entries ++ drop (many L) (replicate 8 (pos 0)) → x ≡ costs_of L v
+costs_are L v e = e ∙ ap (λ (ls : List ℤ). costs_at (set_of v) ls L.entries ++ drop (many L) (replicate 8 (pos 0))) (sym (all_levels L.levels))
+
+pub starts_are : (L : Levels) {x : List ℤ} → x ≡ starts_at L.levels L.entries ++ drop (many L) (replicate 8 (pos 0)) → {s : Search} → s ≡ fresh_search x → s ≡ fresh_for L
+starts_are L {x} e f = f ∙ ap fresh_search (e ∙ ap (λ (ls : List ℤ). starts_at ls L.entries ++ drop (many L) (replicate 8 (pos 0))) (sym (all_levels L.levels)))

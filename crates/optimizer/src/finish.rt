@@ -1,6 +1,7 @@
 // The end of a query: the best model, the stratum, the core; levels are settled and opened. The tables are large: `run` keeps them where they stand. What an end
 // comes to is found by the figures, and the tables change only if a core is recorded or a level is opened.
-ghost use Rattle.std.specs.Prelude.{◌≡◌, true, ◌+◌, ◌-◌, ◌≤◌, ◌<◌, length};
+ghost use Rattle.std.specs.Prelude.{◌≡◌, true, ◌+◌, ◌-◌, ◌≤◌, ◌<◌, pos, length, get_or};
+ghost use Rattle.asp.specs.Literal.{same_ℤ};
 ghost use Rattle.cores.specs.Level.{under, core_fits};
 ghost use Rattle.cores.specs.Tables.{level_of, held_in, FormedTables, Counted};
 ghost use Rattle.advancing.specs.Source.{levels_lent, FormedLevels};
@@ -9,7 +10,8 @@ ghost use Rattle.optimizer.specs.Ending.{fallen_to, ending, standing_of, Ends, a
 ghost use Rattle.advancing.specs.Ready.{ReadyCore};
 
 use advancing::state::{Phase, Turn, Work};
-use asp::figure;
+use asp::atoms::AtomSet;
+use asp::cost::Objective;
 use cores::level::LevelTables;
 
 // What an end comes to, but for the tables: the phase; the place of the level in work, and whether it is opened; the stratum, if it is not; the best model and its costs.
@@ -39,6 +41,14 @@ fn figures_of(phase: Phase, opens: bool, w: Work) -> Ending
     }
 }
 
+// Whether the bounds on a level are equal.
+fn bounds_meet(lowers: &[i64; 8], uppers: &[i64; 8], i: usize) -> bool
+    requires { (i < 8) × (length lowers.now ≡ 8) × (length uppers.now ≡ 8) }
+    ensures { result ≡ same_ℤ (get_or uppers.now i (pos 0)) (get_or lowers.now i (pos 0)) }
+{
+    uppers[i] == lowers[i]
+}
+
 // The first level from place j on, below k, on which the bounds are not equal; k if there is none.
 fn next_level<'a>(lowers: &'a [i64; 8], uppers: &'a [i64; 8], j: usize, k: usize) -> usize
     requires { (j ≤ k) × (k ≤ 8) × (length lowers.now ≡ 8) × (length uppers.now ≡ 8) }
@@ -46,7 +56,7 @@ fn next_level<'a>(lowers: &'a [i64; 8], uppers: &'a [i64; 8], j: usize, k: usize
 {
     let mut i = j;
     while i < k {
-        if !figure::equal_at(uppers, lowers, i) {
+        if !bounds_meet(lowers, uppers, i) {
             return i;
         }
         i += 1;
@@ -55,11 +65,7 @@ fn next_level<'a>(lowers: &'a [i64; 8], uppers: &'a [i64; 8], j: usize, k: usize
 }
 
 // The levels from place j on; those that the best model settles where they start are passed over. After the last, the optimum.
-fn open_from<'a>(
-    objective: &'a Objective<'a>,
-    w: Work,
-    j: usize,
-) -> Ending
+fn open_from<'a>(objective: &'a Objective<'a>, w: Work, j: usize) -> Ending
     requires { FormedLevels (levels_lent objective.now) × (j ≤ length objective.now.levels.now) }
     ensures { Ends (levels_lent objective.now) w result (open_from (levels_lent objective.now) w j) }
 {
@@ -74,54 +80,31 @@ fn open_from<'a>(
 }
 
 // The level in work is settled if the best model costs its lower bound there.
-fn settle<'a>(
-    objective: &'a Objective<'a>,
-    w: Work,
-) -> Ending
+fn settle<'a>(objective: &'a Objective<'a>, w: Work) -> Ending
     requires { FormedLevels (levels_lent objective.now) × (w.level < length objective.now.levels.now) }
     ensures { Ends (levels_lent objective.now) w result (settle_of (levels_lent objective.now) w) }
 {
     let lowers = w.lowers;
     let uppers = w.uppers;
     let level = w.level;
-    if figure::equal_at(&uppers, &lowers, level) {
-        return open_from(
-            objective,
-            w,
-            level + 1,
-        );
+    if bounds_meet(&lowers, &uppers, level) {
+        return open_from(objective, w, level + 1);
     }
     figures_of(Phase::Level, false, w)
 }
 
 // The set's costs, at the front of eight figures.
-fn costs<'a>(
-    objective: &'a Objective<'a>,
-    value: [u8; 1025],
-) -> [i64; 8]
+fn costs<'a>(objective: &'a Objective<'a>, value: [u8; 1025]) -> [i64; 8]
     requires { FormedLevels (levels_lent objective.now) }
     ensures { result ≡ costs_of (levels_lent objective.now) value }
 {
     let mut figures = [0i64; 8];
-    asp::cost::level_costs(
-        levels,
-        objective.levels.len(),
-        priorities,
-        literals,
-        weights,
-        entrycount,
-        &value,
-        &mut figures,
-    );
+    objective.level_costs(AtomSet { bytes: &value }, &mut figures);
     figures
 }
 
 // The set is the best model.
-fn with_best<'a>(
-    objective: &'a Objective<'a>,
-    w: Work,
-    value: [u8; 1025],
-) -> Work
+fn with_best<'a>(objective: &'a Objective<'a>, w: Work, value: [u8; 1025]) -> Work
     requires { FormedLevels (levels_lent objective.now) }
     ensures { result ≡ with_best (levels_lent objective.now) w value }
 {
@@ -133,17 +116,14 @@ fn with_best<'a>(
 }
 
 // It is if it is cheaper.
-fn better<'a>(
-    objective: &'a Objective<'a>,
-    w: Work,
-    value: [u8; 1025],
-) -> Work
+fn better<'a>(objective: &'a Objective<'a>, w: Work, value: [u8; 1025]) -> Work
     requires { FormedLevels (levels_lent objective.now) }
     ensures { result ≡ better_of (levels_lent objective.now) w value }
 {
     let figures = costs(objective, value);
     let uppers = w.uppers;
-    if asp::cost::is_cheaper(&figures, &uppers, objective.levels.len()) {
+    let k = objective.levels.len();
+    if asp::cost::is_cheaper(&figures[..k], &uppers[..k]) {
         return with_best(objective, w, value);
     }
     w
@@ -159,12 +139,7 @@ fn fall(w: Work, s: u32) -> Work
 }
 
 // The end of the first query.
-fn finish_first<'a>(
-    objective: &'a Objective<'a>,
-    w: Work,
-    value: [u8; 1025],
-    turn: Turn,
-) -> Ending
+fn finish_first<'a>(objective: &'a Objective<'a>, w: Work, value: [u8; 1025], turn: Turn) -> Ending
     requires { FormedLevels (levels_lent objective.now) }
     ensures { Ends (levels_lent objective.now) w result (finish_first (levels_lent objective.now) w value turn) }
 {
@@ -179,20 +154,12 @@ fn finish_first<'a>(
 }
 
 // A query on a level ended with a model; `below` is the greatest remaining weight below the stratum.
-fn with_model<'a>(
-    objective: &'a Objective<'a>,
-    w: Work,
-    below: u32,
-    value: [u8; 1025],
-) -> Ending
+fn with_model<'a>(objective: &'a Objective<'a>, w: Work, below: u32, value: [u8; 1025]) -> Ending
     requires { FormedLevels (levels_lent objective.now) × (w.level < length objective.now.levels.now) × (below ≡ under w.stratum (level_of w.tables).rests) }
     ensures { Ends (levels_lent objective.now) w result (settle_of (levels_lent objective.now) (fallen (better_of (levels_lent objective.now) w value))) }
 {
     let b = better(objective, w, value);
-    settle(
-        objective,
-        fall(b, below),
-    )
+    settle(objective, fall(b, below))
 }
 
 // The end of a query on a level: without a model its core is recorded, in w, or the tables are full.
@@ -215,9 +182,7 @@ fn finish_level<'a>(
             }
             figures_of(Phase::Full, false, w)
         }
-        Turn::Model => with_model(
-            objective, w, below, value,
-        ),
+        Turn::Model => with_model(objective, w, below, value),
     }
 }
 
@@ -235,12 +200,8 @@ pub fn finish<'a>(
     ensures { Ends (levels_lent objective.now) w result (finished_of (levels_lent objective.now) phase recorded w value turn) }
 {
     match phase {
-        Phase::First => finish_first(
-            objective, w, value, turn,
-        ),
-        Phase::Level => finish_level(
-            objective, recorded, w, below, value, turn,
-        ),
+        Phase::First => finish_first(objective, w, value, turn),
+        Phase::Level => finish_level(objective, recorded, w, below, value, turn),
         Phase::Optimum => figures_of(Phase::Optimum, false, w),
         Phase::Incoherent => figures_of(Phase::Incoherent, false, w),
         Phase::Full => figures_of(Phase::Full, false, w),
@@ -282,10 +243,7 @@ pub fn recorded<'a>(w: Work, core: &'a [u16]) -> Work
 {
     let level = w.level;
     let mut lowers = w.lowers;
-    lowers[level] = figure::plus(
-        figure::figure_at(&lowers, level),
-        figure::natural(w.stratum),
-    );
+    lowers[level] += i64::from(w.stratum);
     let mut x = w;
     x.tables.record(core, w.stratum);
     x.lowers = lowers;
@@ -315,15 +273,11 @@ fn next_stratum(t: &LevelTables, s: u32) -> u32
 }
 
 // The level in work, in emptied tables.
-pub fn begun<'a>(
-    objective: &'a Objective<'a>,
-    w: Work,
-) -> Work
+pub fn begun<'a>(objective: &'a Objective<'a>, w: Work) -> Work
     requires { FormedLevels (levels_lent objective.now) × (w.level < length objective.now.levels.now) }
     ensures { result ≡ begun_at (levels_lent objective.now) w w.level }
 {
-    let p = asp::table::literal_at(levels, w.level);
-    let tables = LevelTables::opened(priorities, literals, weights, entrycount, p);
+    let tables = LevelTables::opened(objective.entries, objective.levels[w.level]);
     let mut x = w;
     x.tables = tables;
     x.stratum = next_stratum(&tables, 1000001);

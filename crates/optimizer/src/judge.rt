@@ -4,7 +4,7 @@ ghost use Rattle.asp.specs.Sets.{set_of};
 ghost use Rattle.asp.specs.Literal.{same_ℤ};
 ghost use Rattle.asp.specs.Program.{All};
 ghost use Rattle.asp.specs.Cost.{cost, level};
-ghost use Rattle.asp.specs.Tables.{entries_of, Formed};
+ghost use Rattle.asp.specs.Tables.{Formed};
 ghost use Rattle.asp.specs.Paying.{EntriesFormed};
 ghost use Rattle.search.specs.Scan.{rules};
 ghost use Rattle.counting.specs.Counters.{index, counters};
@@ -14,7 +14,9 @@ ghost use Rattle.advancing.specs.Source.{levels_lent, source};
 ghost use Rattle.advancing.specs.Turn.{query_tables, settled_from, in_class, soft_or_wanted, judge_full};
 
 use advancing::state::Judgement;
-use asp::figure;
+use asp::atoms::AtomSet;
+use asp::cost::Objective;
+use asp::rules::Row;
 use counting::counters::Marks;
 use indexing::leaf;
 use judging::judge::Cores;
@@ -26,13 +28,10 @@ fn is_settled_at<'a>(
     value: &'a [u8; 1025],
     lowers: &'a [i64; 8],
 ) -> bool
-    requires { (l < length objective.now.levels.now) × (l < 8) × EntriesFormed priorities.now literals.now weights.now entrycount × (length value.now ≡ 1025) × (length lowers.now ≡ 8) }
-    ensures { result ≡ same_ℤ (cost (set_of value.now) (level (get_or levels.now l (pos 0)) (entries_of priorities.now literals.now weights.now entrycount))) (get_or lowers.now l (pos 0)) }
+    requires { (l < length objective.now.levels.now) × (l < 8) × EntriesFormed objective.now.entries.now × (length value.now ≡ 1025) × (length lowers.now ≡ 8) }
+    ensures { result ≡ same_ℤ (cost (set_of value.now) (level (get_or objective.now.levels.now l (pos 0)) objective.now.entries.now)) (get_or lowers.now l (pos 0)) }
 {
-    figure::equal(
-        asp::cost::level_cost(objective, l, value),
-        figure::figure_at(lowers, l),
-    )
+    objective.level_cost(objective.levels[l], AtomSet { bytes: value }) == lowers[l]
 }
 
 // Whether it does on each of the first k levels.
@@ -42,14 +41,12 @@ pub fn is_settled<'a>(
     value: &'a [u8; 1025],
     lowers: &'a [i64; 8],
 ) -> bool
-    requires { (k ≤ length objective.now.levels.now) × (k ≤ 8) × EntriesFormed priorities.now literals.now weights.now entrycount × (length value.now ≡ 1025) × (length lowers.now ≡ 8) }
-    ensures { result ≡ settled_from (λ j. cost (set_of value.now) (level (get_or levels.now j (pos 0)) (entries_of priorities.now literals.now weights.now entrycount))) lowers.now 0 k }
+    requires { (k ≤ length objective.now.levels.now) × (k ≤ 8) × EntriesFormed objective.now.entries.now × (length value.now ≡ 1025) × (length lowers.now ≡ 8) }
+    ensures { result ≡ settled_from (λ j. cost (set_of value.now) (level (get_or objective.now.levels.now j (pos 0)) objective.now.entries.now)) lowers.now 0 k }
 {
     let mut l: usize = 0;
     while l < k {
-        if !is_settled_at(
-            objective, l, value, lowers,
-        ) {
+        if !is_settled_at(objective, l, value, lowers) {
             return false;
         }
         l += 1;
@@ -84,16 +81,14 @@ fn in_class<'a>(
     m: Marks,
     lowers: &'a [i64; 8],
 ) -> bool
-    requires formed { Formed n pool.now rows.now rulecount × (level ≤ length objective.now.levels.now) × (level ≤ 8) × EntriesFormed priorities.now literals.now weights.now entrycount × (length value.now ≡ 1025) × (length lowers.now ≡ 8) }
+    requires formed { Formed n pool.now rows.now rulecount × (level ≤ length objective.now.levels.now) × (level ≤ 8) × EntriesFormed objective.now.entries.now × (length value.now ≡ 1025) × (length lowers.now ≡ 8) }
     requires leaf { Leaf (rules pool.now rows.now rulecount) n (index starts.now lists.now) (index headstarts.now headlists.now) value.now (counters key.now m) }
     ensures { result ≡ in_class (source n pool.now rows.now rulecount (levels_lent objective.now)) level lowers.now (set_of value.now) }
 {
     if leaf::is_stable(
         pool, rows, rulecount, n, starts, lists, headstarts, headlists, value, key, m,
     ) {
-        return is_settled(
-            objective, level, value, lowers,
-        );
+        return is_settled(objective, level, value, lowers);
     }
     false
 }
@@ -118,14 +113,14 @@ pub fn judge_full<'a>(
     key: &'a [u16; 2048],
     m: Marks,
 ) -> Judgement
-    requires formed { Formed n pool.now rows.now rulecount × (level ≤ length objective.now.levels.now) × (level ≤ 8) × EntriesFormed priorities.now literals.now weights.now entrycount × (length value.now ≡ 1025) × (length lowers.now ≡ 8) }
+    requires formed { Formed n pool.now rows.now rulecount × (level ≤ length objective.now.levels.now) × (level ≤ 8) × EntriesFormed objective.now.entries.now × (length value.now ≡ 1025) × (length lowers.now ≡ 8) }
     requires all { All (λ m. m < length cores.now.softs.now) assumed.now × All (λ m. m < length cores.now.softs.now) blamed.now }
     requires leaf { Leaf (rules pool.now rows.now rulecount) n (index starts.now lists.now) (index headstarts.now headlists.now) value.now (counters key.now m) }
     ensures { (ws : List ℤ) (ps : List ℕ) → result ≡ judge_full (source n pool.now rows.now rulecount (levels_lent objective.now)) (query_tables level lowers.now ws ps assumed.now (tables_of cores.now)) blamed.now value.now }
 {
     if in_class(
-        n, pool, rows, rulecount, objective, level, starts,
-        lists, headstarts, headlists, value, key, m, lowers,
+        n, pool, rows, rulecount, objective, level, starts, lists, headstarts, headlists, value,
+        key, m, lowers,
     ) {
         return soft_or_wanted(cores.judge_both(blamed, assumed, value));
     }

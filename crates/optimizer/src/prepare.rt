@@ -4,6 +4,8 @@ ghost use Rattle.std.specs.Prelude.{◌≡◌};
 ghost use Rattle.advancing.specs.Source.{levels_lent, source, FormedSource, Prepared};
 ghost use Rattle.optimizer.specs.Prepare.{no_preparation};
 
+use asp::cost::Objective;
+use asp::rules::{Row, RuleTable};
 use counting::counters::Index;
 
 // The rules by condition and by head atom; by atom, 1 for one to be tried in first.
@@ -27,7 +29,12 @@ pub fn prepare<'a>(
     let conditions = indexing::build::lists_of(pool, rows, rulecount, false);
     let heads = indexing::build::lists_of(pool, rows, rulecount, true);
     let tried = choosing::first::tried_first(
-        pool, rows, rulecount, priorities, literals, weights, entrycount,
+        RuleTable {
+            atoms: n,
+            pool,
+            rows: &rows[..rulecount],
+        },
+        *objective,
     );
     Preparation {
         conditions: conditions,

@@ -14,6 +14,8 @@ ghost use Rattle.advancing.specs.Ready.{ReadyQuery, GoodBlame};
 use crate::turn;
 use crate::turn::Steps;
 use advancing::state::Work;
+use asp::cost::Objective;
+use asp::rules::Row;
 use indexing::fill;
 use judging::judge::Cores;
 use judging::query;
@@ -61,9 +63,9 @@ fn run_lent<'a>(
     let mut key = [0u16; 2048];
     let m = fill::fill(pool, rows, rulecount, starts, lists, value, &mut key);
     turn::turns(
-        n, pool, rows, rulecount, objective, level, lowers,
-        tried, wished, spots, assumed, cores, starts, lists, headstarts, headlists, lits, marks,
-        value, &mut key, flags, core, len, from, m, budget,
+        n, pool, rows, rulecount, objective, level, lowers, tried, wished, spots, assumed, cores,
+        starts, lists, headstarts, headlists, lits, marks, value, &mut key, flags, core, len, from,
+        m, budget,
     )
 }
 
@@ -164,9 +166,8 @@ pub fn run_query<'a>(
     let cores = Cores::of(&w.tables);
     let lowers = w.lowers;
     let steps = run_columns(
-        n, pool, rows, rulecount, objective, w.level,
-        &lowers, w.stratum, &cores, starts, lists, headstarts, headlists, tried, lits, marks,
-        value, flags, core, len, from, budget,
+        n, pool, rows, rulecount, objective, w.level, &lowers, w.stratum, &cores, starts, lists,
+        headstarts, headlists, tried, lits, marks, value, flags, core, len, from, budget,
     );
     let below = query::next_stratum(cores.softs, w.stratum);
     Asked {

@@ -11,6 +11,8 @@ ghost use Rattle.advancing.specs.Run.{after_run, Reached, run_of};
 use crate::{blame, finish, query, turn};
 use advancing::state;
 use advancing::state::{Blame, Phase, Search, Work};
+use asp::cost::Objective;
+use asp::rules::Row;
 use cores::level::LevelTables;
 use search::trail::Places;
 
@@ -145,10 +147,7 @@ pub fn run<'a>(
         if recorded {
             work = finish::recorded(work, blamed);
         }
-        let e = finish::finish(
-            objective, phase, recorded, work, q.below,
-            value, turn,
-        );
+        let e = finish::finish(objective, phase, recorded, work, q.below, value, turn);
         phase = e.phase;
         work = finish::standing(work, e);
         if e.opens {
@@ -186,8 +185,7 @@ pub fn advance<'a>(
     ensures { result ≡ advance_of (source n pool.now rows.now rulecount (levels_lent objective.now)) s }
 {
     let r = run(
-        n, pool, rows, rulecount, objective, starts, lists,
-        headstarts, headlists, tried, s, 1,
+        n, pool, rows, rulecount, objective, starts, lists, headstarts, headlists, tried, s, 1,
     );
     r.search
 }
@@ -220,21 +218,11 @@ pub fn fresh() -> Search
 }
 
 // That of a program: each lower bound starts at the sum of its level's negative weights.
-pub fn fresh_for<'a>(
-    objective: &'a Objective<'a>,
-) -> Search
+pub fn fresh_for<'a>(objective: &'a Objective<'a>) -> Search
     requires { FormedLevels (levels_lent objective.now) }
     ensures { result ≡ fresh_for (levels_lent objective.now) }
 {
     let mut starts = [0i64; 8];
-    asp::cost::level_starts(
-        levels,
-        objective.levels.len(),
-        priorities,
-        literals,
-        weights,
-        entrycount,
-        &mut starts,
-    );
+    objective.level_starts(&mut starts);
     fresh_over(starts)
 }

@@ -12,6 +12,8 @@ ghost use Rattle.optimizer.specs.Turning.{backed_to};
 
 use crate::{blame, judge};
 use advancing::state::{Judgement, Turn};
+use asp::cost::Objective;
+use asp::rules::Row;
 use counting::counters::Marks;
 use indexing::machine;
 use judging::judge::Cores;
@@ -88,7 +90,8 @@ fn judged<'a>(
         pool,
         rows,
         rulecount,
-        objective, level,
+        objective,
+        level,
         lowers,
         assumed,
         cores,
@@ -221,9 +224,8 @@ pub fn turn<'a>(
             marks: q,
         },
         Tested::Full => judged(
-            n, pool, rows, rulecount, objective, level,
-            lowers, wished, spots, assumed, cores, starts, lists, headstarts, headlists, lits,
-            marks, value, key, flags, core, k, from, q,
+            n, pool, rows, rulecount, objective, level, lowers, wished, spots, assumed, cores,
+            starts, lists, headstarts, headlists, lits, marks, value, key, flags, core, k, from, q,
         ),
     }
 }
@@ -277,9 +279,9 @@ pub fn turns<'a>(
     let mut made: u32 = 0;
     while made < budget {
         let x = turn(
-            n, pool, rows, rulecount, objective, level,
-            lowers, tried, wished, spots, assumed, cores, starts, lists, headstarts, headlists,
-            lits, marks, value, key, flags, core, len, from, at,
+            n, pool, rows, rulecount, objective, level, lowers, tried, wished, spots, assumed,
+            cores, starts, lists, headstarts, headlists, lits, marks, value, key, flags, core, len,
+            from, at,
         );
         let r = x.turning;
         made += 1;

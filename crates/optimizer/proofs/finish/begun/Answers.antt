@@ -1,16 +1,19 @@
 use mir.Syntax.{w32}
 use mir.Val.{SFits}
+use Rattle.std.proofs.Common.{refl, pos, get_or, rules}
+use Rattle.advancing.specs.Source.{levels_lent}
 use Rattle.optimizer.proofs.Finishing.{entries_small, begun_formed, begun_is}
-use borrow.Author.Rules.{rules}
 use Rattle.optimizer.proofs.finish.begun.Goals as goal
 
 pub opened-tables-requires : goal.opened-tables-requires
-opened-tables-requires c =
-    let a = c.before in
-    (a.requires.0.few, a.requires.0.entries.priorities_long, a.requires.0.entries.literals_long, a.requires.0.entries.weights_long, entries_small _ a.requires.0)
+opened-tables-requires c = record { few = c.requires.0.few; atoms = entries_small _ c.requires.0 }
 
 pub next_stratum-requires : goal.next_stratum-requires
-next_stratum-requires c = let f : SFits w32 c.literal_at-p.result = record { sfits = c.literal_at-p.type_inv } in search (begun_formed, f, rules)
+next_stratum-requires c =
+    let fits : SFits w32 (get_or c.args.objective.now.levels.now c.args.w.level (pos 0)) = search rules in
+    begun_formed (levels_lent c.args.objective.now) c.args.w.level c.requires.0 fits refl c.opened-tables.ensures
 
 pub returns : goal.returns
-returns c = let f : SFits w32 c.literal_at-p.result = record { sfits = c.literal_at-p.type_inv } in search (begun_is, f, rules)
+returns c =
+    let fits : SFits w32 (get_or c.args.objective.now.levels.now c.args.w.level (pos 0)) = search rules in
+    search (begun_is (levels_lent c.args.objective.now) c.args.w.level c.requires.0 fits refl c.opened-tables.ensures, rules)

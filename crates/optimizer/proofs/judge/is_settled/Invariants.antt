@@ -3,12 +3,11 @@ use lib.IntN.{pos}
 use lib.ListN.{get_or}
 use Rattle.asp.specs.Sets.{set_of}
 use Rattle.asp.specs.Cost.{cost, level}
-use Rattle.asp.specs.Tables.{entries_of}
 use Rattle.optimizer.proofs.Settled.{Settling}
 use Rattle.optimizer.proofs.judge.is_settled.Given as goal
 
 abbrev pub invariant-loop-l : goal.invariant-loop-l
-invariant-loop-l at = Settling (λ j. cost (set_of at.value) (level (get_or at.levels j (pos 0)) (entries_of at.priorities at.literals at.weights at.entrycount))) at.lowers at.k at.l
+invariant-loop-l at = Settling (λ j. cost (set_of at.value) (level (get_or at.objective.levels.now j (pos 0)) at.objective.entries.now)) at.lowers at.k at.l
 
 abbrev pub decreases-loop-l : goal.decreases-loop-l
 decreases-loop-l at = at.k - at.l
