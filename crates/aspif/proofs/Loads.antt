@@ -5,13 +5,14 @@ use Prim.Native.Nat.{ℕ, ◌≤◌, ◌<◌}
 use native.Mathlib.Omega.{arith}
 use lib.IntN.{nat_abs}
 use lib.ListN.{get_or}
-use Rattle.std.proofs.Common.{Ok}
+use Rattle.std.proofs.Common.{Result, Ok, Err, IfOk}
+use Rattle.aspif.specs.declared.text.RefusedAt.{RefusedAt}
 use Rattle.asp.specs.Sets.{In}
 use Rattle.asp.specs.Program.{Literal, Weighed, Body, normal, weighted, Head, constraint, plain, choice, Rule, Entry, Symbol, Program, highest, body_atoms, head_atoms, rule_atoms, atoms, All, LiteralIn, BodyIn, HeadIn, RuleIn, ProgramIn}
 use Rattle.asp.specs.Tables.{row_at, RowIn}
 use Rattle.aspif_lines.specs.Text.{text_of, accepted}
-use Rattle.aspif_tables.specs.Lists.{lists_of, SoundLists, Within}
-use Rattle.aspif.specs.Store.{answer_of, stored_program, stored_text, WellFormed}
+use Rattle.aspif_tables.specs.Lists.{lists_of, Sound, SoundLists, Within}
+use Rattle.aspif.specs.Store.{seen_verdict, load_of, answer_of, stored_program, stored_text, WellFormed}
 use Rattle.aspif_tables.specs.declared.table.Stored.{Stored}
 use Rattle.aspif_lines.proofs.Spans.{span_length}
 use Rattle.aspif.proofs.Onwards.{fits_of, limits_within}
@@ -127,6 +128,11 @@ module _ (p : Stored) (s : List ℕ) (sound : SoundLists (lists_of p) p.counts) 
         levels = good.fine.down;
         symbols = sound.symbols.inside;
       }
+
+-- what a load answers, and that it is well formed
+pub load_answer : (p : Stored) (r : Result (Unit {0}) RefusedAt) (s : List ℕ) → seen_verdict p r ≡ text_of s → IfOk r (λ u. Sound p) → (answer_of (load_of p r) ≡ text_of s) × IfOk (load_of p r) WellFormed
+load_answer p (Ok u) s e h = (e, well_formed p s h (sym e))
+load_answer p (Err c) s e h = (e, tt)
 
 -- what is stored, and so what is written out, is accepted with the same program and stored as it is
 pub written_again : (p : Stored) (s : List ℕ) → answer_of (Ok p) ≡ text_of s → text_of (stored_text p) ≡ accepted (stored_program p) (stored_text p)

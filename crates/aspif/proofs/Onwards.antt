@@ -11,11 +11,15 @@ use borrow.Author.Tests.{ne_eqb, leb-true}
 use Rattle.asp.specs.Sets.{pick}
 use Rattle.asp.specs.Tables.{rule_at, symbol_at, entry_at, row_at}
 use Rattle.aspif_lines.specs.Text.{pieces, longer, nothing, judged_line, lines, stepped_line, fits, limits, Reading, stop, last, goes, Answer, accepted, refused}
-use Rattle.aspif_tables.specs.Lists.{Within, Lists, reading_of, SoundLists, turn_of, Sound, reading_in}
+use Rattle.aspif_tables.specs.Lists.{Within, Lists, reading_of, SoundLists, turn_of, lists_of, followed, SplitLong, Sound, reading_in}
 use Rattle.aspif_tables.specs.declared.table.Stored.{Stored}
 use Rattle.aspif_tables.specs.declared.line.LineTurn.{LineTurn}
 use Rattle.aspif_tables.specs.declared.line.LineTurn.TheVariants.{Last, Goes}
-use Rattle.std.proofs.Common.{Ok}
+use Rattle.std.proofs.Common.{Option, Some, None, Result, Ok, Err}
+use Rattle.std.specs.Borrow.{Bor}
+use Rattle.aspif_fields.specs.declared.refusal.Refusal.TheVariants.{Malformed, PastLimit}
+use Rattle.aspif.specs.declared.text.RefusedAt.{RefusedAt}
+use Rattle.aspif.specs.Store.{onward_of, seen_onward, OnwardAfter}
 use Rattle.aspif_tables.specs.declared.table.Counts.{Counts}
 use Rattle.aspif_lines.proofs.Spans.{span_length}
 
@@ -119,6 +123,25 @@ module _ (s l : List ℕ) (p : Reading) (m : ℕ) where
     pub on_full : goes q ≡ stepped_line l p → fits q.program ≡ false → refused 5 m ≡ lines m p (pieces s)
     unfolding lines
     on_full e f = rw (cut, ← e, goes_on m q (λ (w : Reading). lines (m + 1) w (pieces t)) (pieces t) (pieces_some t), f)
+
+-- what line m and what follows it lead to is what the whole text leads to, from that line on
+module _ (s l : List ℕ) (p : Reading) (m k : ℕ) (q : Stored) (sound : Sound q) (text : q.counts.text ≤ k + length l + 1) where
+  abbrev Onwards : Result (Option (Bor (List ℕ))) RefusedAt → Type 0
+  Onwards r = (seen_onward q m r ≡ lines m p (pieces s)) × OnwardAfter q (length s) k r
+
+  pub onward_leads : (t : LineTurn) (after : Option (Bor (List ℕ))) → pieces s ≡ l ∷ followed after → SplitLong (length s) (length l) after → turn_of (lists_of q) q.counts (Ok t) ≡ stepped_line l p
+      → Onwards (onward_of t after q.counts m)
+  onward_leads t None cut long e = (on_cut s l p m (lists_of q) q.counts t cut e, tt)
+  onward_leads Last (Some r) cut long e = go (eqb (length r.now) 0) refl
+    where
+      go : (b : Bool) → b ≡ eqb (length r.now) 0 → Onwards (pick b (Ok None) (Err (record { refusal = Malformed; line = m + 1 })))
+      go true h = (on_last s l p m r.now (reading_in q) cut true h e, sound)
+      go false h = (on_last s l p m r.now (reading_in q) cut false h e, tt)
+  onward_leads Goes (Some r) cut long e = go (limits q.counts.rules q.counts.used q.counts.entries q.counts.levels q.counts.symbols q.counts.conditions q.counts.names) refl
+    where
+      go : (b : Bool) → limits q.counts.rules q.counts.used q.counts.entries q.counts.levels q.counts.symbols q.counts.conditions q.counts.names ≡ b → Onwards (pick b (Ok (Some r)) (Err (record { refusal = PastLimit; line = m })))
+      go true h = (on_next s l p m r.now (reading_in q) cut e (sym (fits_of (lists_of q) q.counts sound) ∙ h), (sound, limits_within q.counts h, omega arith, omega arith))
+      go false h = (on_full s l p m r.now (reading_in q) cut e (sym (fits_of (lists_of q) q.counts sound) ∙ h), tt)
 
 -- the lines before these are read, and line m is next
 pub record ReadUpTo (p₀ p : Stored) (s₀ s : List ℕ) (m : ℕ) : Type 0 where

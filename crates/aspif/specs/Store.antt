@@ -1,16 +1,28 @@
 -- A text's answer and tables while its lines are read, and the stored program. Assumes nothing: these are definitions.
-use Rattle.std.specs.Prelude.{◌≡◌, List, ℕ, ◌+◌, ◌≤◌, ◌<◌, nat_abs, length, Option, Some, None, Result, Ok, Err}
+use Rattle.std.specs.Prelude.{◌≡◌, List, ℕ, ◌+◌, ◌≤◌, ◌<◌, eqb, nat_abs, length, Option, Some, None, Result, Ok, Err}
 use Rattle.std.specs.Borrow.{Bor}
+use Rattle.asp.specs.Sets.{pick}
 use Rattle.asp.specs.Program.{Weighed, Body, normal, weighted, Rule, Entry, Program, atoms, All, ProgramIn}
 use Rattle.asp.specs.Tables.{row_at, program_of, Formed}
 use Rattle.aspif_fields.specs.Refusals.{refusal_number}
-use Rattle.aspif_lines.specs.Text.{sum, rule_size, Answer, accepted, refused, lines, pieces}
+use Rattle.aspif_fields.specs.declared.refusal.Refusal.TheVariants.{Malformed, PastLimit}
+use Rattle.aspif_lines.specs.Text.{sum, rule_size, limits, Answer, accepted, refused, lines, pieces}
 use Rattle.aspif_lines.specs.Seen.{bytes_at}
+use Rattle.aspif_tables.specs.declared.table.Counts.{Counts}
 use Rattle.aspif_tables.specs.declared.table.Stored.{Stored}
+use Rattle.aspif_tables.specs.declared.line.LineTurn.{LineTurn}
+use Rattle.aspif_tables.specs.declared.line.LineTurn.TheVariants.{Last, Goes}
 use Rattle.aspif_tables.specs.Lists.{Within, Descending, Sized, tables, lists_of, reading_in, Sound}
 use Rattle.aspif.specs.declared.text.RefusedAt.{RefusedAt}
 
 -- ---- one line
+
+-- After the fields of line m: its byte 10, what follows it, the limits.
+abbrev pub onward_of : LineTurn → Option (Bor (List ℕ)) → Counts → ℕ → Result (Option (Bor (List ℕ))) RefusedAt
+onward_of t None n m = Err (record { refusal = Malformed; line = m })
+onward_of Last (Some s) n m = pick (eqb (length s.now) 0) (Ok None) (Err (record { refusal = Malformed; line = m + 1 }))
+onward_of Goes (Some s) n m =
+    pick (limits n.rules n.used n.entries n.levels n.symbols n.conditions n.names) (Ok (Some s)) (Err (record { refusal = PastLimit; line = m }))
 
 -- What one line leads to, on line m: a refusal, the end, or the lines after it.
 abbrev pub seen_onward : Stored → ℕ → Result (Option (Bor (List ℕ))) RefusedAt → Answer
@@ -43,6 +55,11 @@ stored_text p = bytes_at p.text 0 p.counts.text
 abbrev pub answer_of : Result Stored RefusedAt → Answer
 answer_of (Ok p) = accepted (stored_program p) (stored_text p)
 answer_of (Err e) = refused (refusal_number e.refusal) e.line
+
+-- the tables p, where they were filled
+abbrev pub load_of : Stored → Result (Unit {0}) RefusedAt → Result Stored RefusedAt
+load_of p (Ok u) = Ok p
+load_of p (Err e) = Err e
 
 -- order 2: "Bound is 0 to 1,000,000,000, each weight 0 to 1,000,000"
 abbrev pub BodyWeighs : Body → Type 0

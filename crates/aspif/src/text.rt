@@ -2,10 +2,11 @@
 ghost use Rattle.std.specs.Prelude.{◌≡◌, ◌+◌, ◌≤◌, length, IfOk};
 ghost use Rattle.aspif_lines.specs.Text.{same_bytes, header, text_of, lines, pieces};
 ghost use Rattle.aspif_tables.specs.Lists.{lists_of, no_counts, Sized, Sound, Within, reading_in};
-ghost use Rattle.aspif.specs.Store.{seen_onward, OnwardAfter, seen_verdict, answer_of, WellFormed};
+ghost use Rattle.aspif.specs.Store.{onward_of, seen_onward, OnwardAfter, seen_verdict, answer_of, WellFormed};
 
 use aspif_fields::refusal::Refusal;
 use aspif_tables::line::{LineTurn, append_line, split_line};
+use aspif_tables::table::Counts;
 pub use aspif_tables::table::Stored;
 use std::fmt;
 
@@ -33,7 +34,40 @@ impl fmt::Display for RefusedAt {
     }
 }
 
-// The line that comes next, which is line `line`: what follows it, or nothing where the text ends with it.
+// After a line's fields: its byte 10, what follows it, the limits. What comes next, or nothing where the text ends with the line.
+fn after_line<'a>(
+    turn: LineTurn,
+    after: Option<&'a [u8]>,
+    counts: Counts,
+    line: usize,
+) -> Result<Option<&'a [u8]>, RefusedAt>
+    requires { line ≤ 65538 }
+    ensures { result ≡ onward_of turn after.entry counts line }
+{
+    let Some(rest) = after else {
+        let refusal = Refusal::Malformed; // its byte 10 lacks, whatever the limits say
+        return Err(RefusedAt { refusal, line });
+    };
+    match turn {
+        LineTurn::Last => {
+            if rest.is_empty() {
+                return Ok(None);
+            }
+            let refusal = Refusal::Malformed;
+            let line = line + 1;
+            Err(RefusedAt { refusal, line })
+        }
+        LineTurn::Goes => {
+            if counts.fits() {
+                return Ok(Some(rest));
+            }
+            let refusal = Refusal::PastLimit;
+            Err(RefusedAt { refusal, line })
+        }
+    }
+}
+
+// The line that comes next, which is line `line`.
 fn one_line<'a>(p: &mut Stored, rest: &'a [u8], line: usize) -> Result<Option<&'a [u8]>, RefusedAt>
     requires sound { Sound p.old }
     requires within { Within p.old.counts }
@@ -45,30 +79,7 @@ fn one_line<'a>(p: &mut Stored, rest: &'a [u8], line: usize) -> Result<Option<&'
     let turn = p
         .take_line(l)
         .map_err(|refusal| RefusedAt { refusal, line })?;
-    let Some(next) = after else {
-        let refusal = Refusal::Malformed; // its byte 10 lacks, whatever the limits say
-        return Err(RefusedAt { refusal, line });
-    };
-    match turn {
-        LineTurn::Last => {
-            if next.is_empty() {
-                return Ok(None);
-            }
-            Err(RefusedAt {
-                refusal: Refusal::Malformed,
-                line: line + 1,
-            })
-        }
-        LineTurn::Goes => {
-            if p.counts.fits() {
-                return Ok(Some(next));
-            }
-            Err(RefusedAt {
-                refusal: Refusal::PastLimit,
-                line,
-            })
-        }
-    }
+    after_line(turn, after, p.counts, line)
 }
 
 // The lines from line 2 on.

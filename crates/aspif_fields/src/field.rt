@@ -1,5 +1,5 @@
 // Numbers, atoms and literals: each by form, range and accepted part.
-ghost use Rattle.std.specs.Prelude.{List, ◌≡◌, ℕ, ◌≤◌, ◌<◌, pos, nat_abs, IfOk};
+ghost use Rattle.std.specs.Prelude.{List, ◌≡◌, ℕ, ◌≤◌, nat_abs, IfOk};
 ghost use Rattle.aspif_fields.specs.Fields.{within, ranged, number, field, natural, signed, atom, literal};
 ghost use Rattle.aspif_fields.specs.SeenFields.{read};
 
@@ -93,12 +93,4 @@ impl<'a> Rest<'a> {
         }
         Ok(value)
     }
-}
-
-// A bound or a weight of a body.
-pub fn whole(v: usize) -> i32
-    requires { v ≤ 1000000000 }
-    ensures { result ≡ pos v }
-{
-    v as i32
 }

@@ -3,7 +3,6 @@ ghost use Rattle.std.specs.Prelude.{◌≡◌, ◌≤◌, ℤ, nat_abs, IfOk};
 ghost use Rattle.aspif_fields.specs.Fields.{pair, weighed_field};
 ghost use Rattle.aspif_fields.specs.SeenFields.{read_as, entry_of, weighed_of};
 
-use super::field::whole;
 use super::refusal::Refusal;
 use super::token::Rest;
 
@@ -31,13 +30,14 @@ impl<'a> Rest<'a> {
     }
 
     // Of a body.
+    // Kept: beside `read_pair`, since its weight is another field: one function over the weight's reader would be longer than both.
     #[tactic(auto, unfolding(crate::specs::Fields::weighed_field))]
     pub fn read_weighed(&mut self) -> Result<Pair, Refusal>
         ensures answer { read_as weighed_of result self.new.bytes.now ≡ weighed_field self.old.bytes.now }
         ensures range { IfOk result (λ p. (nat_abs p.literal ≤ 1024) × (nat_abs p.weight ≤ 1000000)) }
     {
         let literal = self.read_literal()?;
-        let weight = whole(self.read_natural(0, MOST_BODY_WEIGHT)?);
+        let weight = self.read_natural(0, MOST_BODY_WEIGHT)? as i32;
         Ok(Pair { literal, weight })
     }
 }

@@ -11,7 +11,7 @@ const BEYOND: usize = 1000000001;
 const TENTH: usize = 100000000;
 
 // What is left of a line: each reader takes a field from its front.
-#[derive(Clone, Copy)]
+#[derive(Clone, Copy, PartialEq, Eq, Debug)]
 pub struct Rest<'a> {
     pub bytes: &'a [u8],
 }
@@ -19,7 +19,7 @@ pub struct Rest<'a> {
 pub fn is_digit(b: u8) -> bool
     ensures { result ≡ is_digit b }
 {
-    b'0' <= b && b <= b'9'
+    b.is_ascii_digit()
 }
 
 // One more digit, and no more than 1,000,000,001.
@@ -54,20 +54,14 @@ impl<'a> Rest<'a> {
     pub fn peek(&self) -> u8
         ensures { result ≡ next self.now.bytes.now }
     {
-        match self.bytes.first() {
-            Some(b) => *b,
-            None => 0,
-        }
+        self.bytes.first().copied().unwrap_or(0)
     }
 
     // The line is over.
     pub fn is_ended(&self) -> bool
         ensures { result ≡ nil self.now.bytes.now }
     {
-        match self.bytes.first() {
-            Some(_) => false,
-            None => true,
-        }
+        self.bytes.is_empty()
     }
 
     // A field is over at a space and at the end of the line.

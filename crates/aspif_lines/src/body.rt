@@ -8,7 +8,7 @@ ghost use Rattle.aspif_lines.specs.Seen.{is_weighed, is_both_signed, body_in, Bo
 
 use super::members::read_members;
 use super::weighted::{is_one_signed, read_weights};
-use aspif_fields::field::{MOST_COUNT, whole};
+use aspif_fields::field::MOST_COUNT;
 use aspif_fields::refusal::Refusal;
 use aspif_fields::token::Rest;
 
@@ -78,7 +78,7 @@ fn read_weighted(
     let bound = rest.read_natural(0, MOST_BOUND)?;
     let count = rest.read_natural(0, MOST_COUNT)?;
     let top = read_weights(rest, count, pool, used, start)?;
-    pool[used + count] = whole(bound);
+    pool[used + count] = bound as i32;
     let kind = weighed_kind(&pool[used..used + count]);
     Ok(BodyPart { kind, count, top })
 }

@@ -18,7 +18,7 @@ returns-clause-answer c =
     let v = c.in_ok-bound.bound in
     let top = c.in_ok-top.ensures in
     let d = back_whole v c.in_ok-bound.ensures.range.1 in
-    rw (c.whole.ensures, d, c.weighed_kind-kind.ensures.weighed, bounded_body k top.kept c.requires c.in_ok-count.ensures.range.1 v, ← c.in_ok-bound.ensures.answer, ← c.in_ok-count.ensures.answer, ← top.answer)
+    rw (d, c.weighed_kind-kind.ensures.weighed, bounded_body k top.kept c.requires c.in_ok-count.ensures.range.1 v, ← c.in_ok-bound.ensures.answer, ← c.in_ok-count.ensures.answer, ← top.answer)
 
 pub returns-clause-good : goal.returns-clause-good
 returns-clause-good c =
@@ -27,5 +27,5 @@ returns-clause-good c =
     let top = c.in_ok-top.ensures in
     let d = back_whole v c.in_ok-bound.ensures.range.1 in
     let n : c.args.used + k - c.args.used ≡ k = omega arith in
-    let signed = rw (c.whole.ensures, d) at c.weighed_kind-kind.ensures.signed in
-    rw (c.whole.ensures, d) (bounded_good k top.kept c.requires c.in_ok-count.ensures.range.1 v _ n c.weighed_kind-kind.ensures.weighed signed top.top)
+    let signed = rw (d) at c.weighed_kind-kind.ensures.signed in
+    rw (d) (bounded_good k top.kept c.requires c.in_ok-count.ensures.range.1 v _ n c.weighed_kind-kind.ensures.weighed signed top.top)
