@@ -2,22 +2,44 @@
 use mathlib.Core.Path.{◌≡◌, refl, subst}
 use Rattle.std.proofs.Math.Logic.{∥∥₁_elim, ∥∥₁_prop}
 use Rattle.std.specs.Prelude.{Some}
-use mathlib.Core.List.{List}
 use Prim.Native.Nat.{ℕ}
-use Rattle.asp.specs.Program.{Program}
+use Rattle.aspif.specs.Store.{WellFormed, StoredAfter}
+use Rattle.aspif.specs.declared.text.Stored.{Stored}
+use Rattle.aspif.specs.declared.text.Loading.{Loading}
+use Rattle.aspif.specs.declared.text.Loading.TheVariants.{Accepted}
+use Rattle.advancing.specs.declared.state.Search.{Search}
+use Rattle.advancing.specs.Source.{FormedSource, FormedLevels}
+use Rattle.advancing.specs.State.{fresh_for}
 use Rattle.advancing.proofs.Reached.{reached_fresh, reached_more}
+use Rattle.optimizer.specs.declared.prepare.Preparation.{Preparation}
 use Rattle.planner.specs.declared.service.Loaded.{Loaded}
-use Rattle.planner.specs.Held.{Holding}
+use Rattle.planner.specs.Held.{Holding, loaded, holding, source_of, PreparedFor}
 use Rattle.planner.specs.Sound.{Sound}
-use Rattle.planner.specs.Calls.{FreshWith, moved_to, ran}
+use Rattle.planner.specs.Calls.{moved_to, ran}
 use Rattle.planner.proofs.Link.{formed_source}
 
-pub sound_load : {P : Program} {t : List ℕ} {l : Loaded} → FreshWith P t l → Sound l
-sound_load {l = l} f = record { formed = f.tables.formed; prepared = f.prepared; reached = reached_fresh (formed_source l.stored f.tables.formed) f.search }
+-- ---- load
 
--- what a load leaves
-pub loaded_sound : {P : Program} {t : List ℕ} {l m : Loaded} → FreshWith P t l → ◌≡◌ {A = Holding} (Some l) (Some m) → ∥ Sound m ∥₁
-loaded_sound {l = l} {m = m} f e = let d : l ≡ m = cc in subst (λ (x : Loaded). ∥ Sound x ∥₁) d ∣ sound_load f ∣₁
+module _ (p : Stored) {a : Loading} (e : a ≡ Accepted) (f : StoredAfter p a) where
+  -- what an accepted text leaves is well formed
+  stored_well : WellFormed p
+  stored_well = subst (StoredAfter p) e f
+
+  pub stored_source : FormedSource (source_of p)
+  stored_source = formed_source p stored_well
+
+  pub stored_levels : FormedLevels (source_of p).levels
+  stored_levels = stored_source.levels
+
+  module _ {ix : Preparation} (o : PreparedFor p ix) {q : Search} (d : q ≡ fresh_for (source_of p).levels) where
+    sound_load : Sound (loaded p ix q)
+    sound_load = record { formed = stored_well; prepared = o; reached = reached_fresh stored_source d }
+
+    -- what a load leaves
+    pub loaded_sound : {x : Loaded} → holding p ix q ≡ Some x → ∥ Sound x ∥₁
+    loaded_sound {x} h = let k : loaded p ix q ≡ x = cc in subst (λ (y : Loaded). ∥ Sound y ∥₁) k ∣ sound_load ∣₁
+
+-- ---- advance and run
 
 -- an advance is a run of one
 pub sound_run : (b : ℕ) {l : Loaded} → Sound l → Sound (moved_to l (ran l b))

@@ -1,14 +1,12 @@
--- Load, run, look and write, from what their callees ensure. Assumes nothing.
-use mathlib.Core.Path.{◌≡◌, sym, ap, ap₂, ◌∙◌, subst}
+-- Advance, look and write, from what their callees ensure. Assumes nothing.
+use mathlib.Core.Path.{◌≡◌, sym, ap, ap₂, ◌∙◌}
 use mathlib.Core.List.{List}
 use Prim.Native.Nat.{ℕ}
 use lib.IntN.{ℤ}
 use lib.ListN.{take}
 use Rattle.std.specs.Prelude.{Option, Some, None}
-use Rattle.aspif.specs.Store.{stored_program, stored_text, WellFormed, StoredAfter}
+use Rattle.aspif.specs.Store.{stored_program, stored_text, WellFormed}
 use Rattle.aspif.specs.declared.text.Stored.{Stored}
-use Rattle.aspif.specs.declared.text.Loading.{Loading}
-use Rattle.aspif.specs.declared.text.Loading.TheVariants.{Accepted}
 use Rattle.advancing.specs.declared.state.Search.{Search}
 use Rattle.advancing.specs.Source.{many}
 use Rattle.advancing.specs.Advance.{advances_of}
@@ -20,12 +18,6 @@ use Rattle.planner.specs.Held.{Holding, source_of, status_of}
 use Rattle.planner.specs.Calls.{Says, gives, refuses, refuses_for, Outcome, outcome, advance_call, run_call, Seen, seen, given, seen_in, seen_of, level_seen, stratum_seen, look_call, fills, filling, filled_with, filled, write_call}
 use Rattle.planner.proofs.Filling.{fills_as}
 use Rattle.planner.proofs.Link.{levels_many, priorities_is}
-
--- ---- load
-
--- what an accepted text leaves is well formed
-pub loaded_well : (p : Stored) {a : Loading} → a ≡ Accepted → StoredAfter p a → WellFormed p
-loaded_well p e f = subst (StoredAfter p) e f
 
 -- ---- advance
 

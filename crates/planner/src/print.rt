@@ -25,6 +25,7 @@ impl fmt::Display for Status {
 impl fmt::Display for Count {
     ghost use Rattle.std.specs.Prelude.{Some};
     ghost use Rattle.planner.specs.Print.{count_text};
+
     ghost output = { λ c. Some (count_text c) };
 
     fn fmt<W: fmt::Write>(&self, f: &mut fmt::Formatter<W>) -> fmt::Result {
