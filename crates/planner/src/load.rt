@@ -13,8 +13,8 @@ pub struct RefusedAt {
 }
 
 impl Service {
-    #[tactic(auto, using(crate::proofs::Kept::stored_source, crate::proofs::Kept::stored_levels, crate::proofs::Kept::loaded_sound))]
     // "accepted, the service is as a fresh one given it, with status running"; refused, it is as before.
+    #[tactic(auto, using(crate::proofs::Kept::stored_source, crate::proofs::Kept::stored_levels, crate::proofs::Kept::loaded_sound))]
     pub fn load(&mut self, text: &[u8]) -> Result<(), RefusedAt>
         ensures { AfterLoad (text_of text.now) self.old.held (outcome (says_load result) self.new.held) }
     {
