@@ -1,21 +1,18 @@
 -- What a load stores: well-formed tables, or nothing. Assumes nothing.
-use mathlib.Core.Path.{◌≡◌, refl, sym, ◌∙◌}
+use mathlib.Core.Path.{◌≡◌, sym, ◌∙◌}
 use mathlib.Core.List.{List, [], ◌∷◌}
 use Prim.Native.Nat.{ℕ, ◌≤◌, ◌<◌}
 use native.Mathlib.Omega.{arith}
 use lib.IntN.{nat_abs}
 use lib.ListN.{get_or}
+use Rattle.std.proofs.Common.{Ok}
 use Rattle.asp.specs.Sets.{In}
 use Rattle.asp.specs.Program.{Literal, Weighed, Body, normal, weighted, Head, constraint, plain, choice, Rule, Entry, Symbol, Program, highest, body_atoms, head_atoms, rule_atoms, atoms, All, LiteralIn, BodyIn, HeadIn, RuleIn, ProgramIn}
-use Rattle.asp.specs.Tables.{span, row_at, RowIn}
+use Rattle.asp.specs.Tables.{row_at, RowIn}
 use Rattle.aspif_lines.specs.Text.{text_of, accepted}
-use Rattle.aspif_tables.specs.Lists.{SoundLists, Within}
-use Rattle.aspif.specs.Store.{seen_verdict, VerdictAfter, counts_of, answer_for, answer_of, lists_of, stored_program, stored_text, WellFormed, StoredAfter}
-use Rattle.aspif.specs.declared.text.Stored.{Stored}
-use Rattle.aspif.specs.declared.text.Loading.{Loading}
-use Rattle.aspif.specs.declared.text.Loading.TheVariants.{Accepted}
-use Rattle.aspif.specs.declared.text.TextVerdict.{TextVerdict}
-use Rattle.aspif.specs.declared.text.TextVerdict.TheVariants as verdict
+use Rattle.aspif_tables.specs.Lists.{lists_of, SoundLists, Within}
+use Rattle.aspif.specs.Store.{answer_of, stored_program, stored_text, WellFormed}
+use Rattle.aspif_tables.specs.declared.table.Stored.{Stored}
 use Rattle.aspif_lines.proofs.Spans.{span_length}
 use Rattle.aspif.proofs.Onwards.{fits_of, limits_within}
 use Rattle.aspif.proofs.Accepted.{Good, accepted_good}
@@ -131,15 +128,6 @@ module _ (p : Stored) (s : List ℕ) (sound : SoundLists (lists_of p) p.counts) 
         symbols = sound.symbols.inside;
       }
 
-pub load_answer : (p : Stored) (v : TextVerdict) (a : Loading) (s : List ℕ) → p.counts ≡ counts_of v → a ≡ answer_for v → seen_verdict (lists_of p) v ≡ text_of s → VerdictAfter (lists_of p) v
-    → (answer_of p a ≡ text_of s) × StoredAfter p a
-unfolding span
-load_answer p (verdict.Taken n) a s c e q h =
-    let x : answer_of p Accepted ≡ text_of s = rw c q in
-    let y : SoundLists (lists_of p) p.counts = rw c h in
-    rw e (x, well_formed p s y (sym x))
-load_answer p (verdict.Refused k m) a s c e q h = rw (e, c) (q, (refl, refl))
-
 -- what is stored, and so what is written out, is accepted with the same program and stored as it is
-pub written_again : (p : Stored) (s : List ℕ) → answer_of p Accepted ≡ text_of s → text_of (stored_text p) ≡ accepted (stored_program p) (stored_text p)
+pub written_again : (p : Stored) (s : List ℕ) → answer_of (Ok p) ≡ text_of s → text_of (stored_text p) ≡ accepted (stored_program p) (stored_text p)
 written_again p s e = round_trip s (stored_program p) (stored_text p) (sym e)

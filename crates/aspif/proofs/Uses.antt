@@ -12,7 +12,7 @@ use Rattle.asp.specs.Program.{Entry, All, LiteralIn}
 use Rattle.asp.specs.Tables.{span, entry_at}
 use Rattle.aspif_lines.specs.Seen.{bytes_at}
 use Rattle.aspif.specs.Store.{stored_text, WellFormed}
-use Rattle.aspif.specs.declared.text.Stored.{Stored}
+use Rattle.aspif_tables.specs.declared.table.Stored.{Stored}
 
 -- what holds of all of a span holds at each of its places
 pub all_span : {A : Type 0} (P : A → Type 0) (f : ℕ → A) (i k : ℕ) → All P (span f i k) → (j : ℕ) → j < k → P (f (i + j))

@@ -19,9 +19,10 @@ use Rattle.aspif_lines.proofs.Spans.{span_shift}
 use Rattle.aspif_lines.proofs.Heads.{length_map}
 use Rattle.aspif_lines.proofs.RowKinds.{kind_choice, kind_weighted, kind_mixed}
 use Rattle.aspif_tables.specs.Lists.{Descending, Within, Sized}
-use Rattle.aspif.specs.Store.{lists_of, BodyWeighs, stored_program, stored_text, WellFormed}
+use Rattle.aspif_tables.specs.Lists.{lists_of}
+use Rattle.aspif.specs.Store.{BodyWeighs, stored_program, stored_text, WellFormed}
 use Rattle.aspif_tables.specs.declared.table.Counts.{Counts}
-use Rattle.aspif.specs.declared.text.Stored.{Stored}
+use Rattle.aspif_tables.specs.declared.table.Stored.{Stored}
 use Rattle.aspif.proofs.Onwards.{limits_within}
 use Rattle.aspif.proofs.Accepted.{Good, accepted_good}
 use Rattle.aspif.proofs.Names.{NameLies, names_in}

@@ -1,69 +1,36 @@
 -- A text's answer and tables while its lines are read, and the stored program. Assumes nothing: these are definitions.
-use Rattle.std.specs.Prelude.{◌≡◌, List, [], ℕ, ◌+◌, ◌≤◌, ◌<◌, eqb, nat_abs, length, drop}
-use Rattle.asp.specs.Sets.{pick}
+use Rattle.std.specs.Prelude.{◌≡◌, List, ℕ, ◌+◌, ◌≤◌, ◌<◌, nat_abs, length, Option, Some, None, Result, Ok, Err}
+use Rattle.std.specs.Borrow.{Bor}
 use Rattle.asp.specs.Program.{Weighed, Body, normal, weighted, Rule, Entry, Program, atoms, All, ProgramIn}
 use Rattle.asp.specs.Tables.{row_at, program_of, Formed}
-use Rattle.aspif_lines.specs.Text.{sum, rule_size, limits, Answer, accepted, refused, lines, pieces, empty_program}
+use Rattle.aspif_fields.specs.Refusals.{refusal_number}
+use Rattle.aspif_lines.specs.Text.{sum, rule_size, Answer, accepted, refused, lines, pieces}
 use Rattle.aspif_lines.specs.Seen.{bytes_at}
-use Rattle.aspif_tables.specs.declared.table.Counts.{Counts}
-use Rattle.aspif_tables.specs.declared.add.LineTurn.{LineTurn}
-use Rattle.aspif_tables.specs.declared.add.LineTurn.TheVariants as turn
-use Rattle.aspif_tables.specs.Lists.{Within, Descending, Lists, lists, Sized, tables, reading_of, SoundLists}
-use Rattle.aspif.specs.declared.text.Onward.{Onward}
-use Rattle.aspif.specs.declared.text.Onward.TheVariants as onward
-use Rattle.aspif.specs.declared.text.TextVerdict.{TextVerdict}
-use Rattle.aspif.specs.declared.text.TextVerdict.TheVariants as verdict
-use Rattle.aspif.specs.declared.text.Loading.{Loading}
-use Rattle.aspif.specs.declared.text.Loading.TheVariants.{Accepted, RefusedAt}
-use Rattle.aspif.specs.declared.text.Stored.{Stored}
+use Rattle.aspif_tables.specs.declared.table.Stored.{Stored}
+use Rattle.aspif_tables.specs.Lists.{Within, Descending, Sized, tables, lists_of, reading_in, Sound}
+use Rattle.aspif.specs.declared.text.RefusedAt.{RefusedAt}
 
 -- ---- one line
 
--- After the line's fields: its byte 10 at `end` of a text of so many bytes, what follows it, the limits.
-abbrev pub onward_of : LineTurn → ℕ → ℕ → Onward
-onward_of (turn.Refused c) end size = onward.Refused c 0
-onward_of (turn.Last n) end size = pick (eqb end size) (onward.Refused 2 0) (pick (eqb (end + 1) size) (onward.Accept n) (onward.Refused 2 1))
-onward_of (turn.Goes n) end size =
-    pick (eqb end size) (onward.Refused 2 0)
-    (pick (limits n.rules n.used n.entries n.levels n.symbols n.conditions n.names) (onward.On n (end + 1)) (onward.Refused 5 0))
+-- What one line leads to, on line m: a refusal, the end, or the lines after it.
+abbrev pub seen_onward : Stored → ℕ → Result (Option (Bor (List ℕ))) RefusedAt → Answer
+seen_onward p m (Ok None) = accepted (reading_in p).program (reading_in p).text
+seen_onward p m (Ok (Some s)) = lines (m + 1) (reading_in p) (pieces s.now)
+seen_onward p m (Err e) = refused (refusal_number e.refusal) e.line
 
--- What one line leads to, on line m of the text s.
-abbrev pub seen_onward : List ℕ → Lists → ℕ → Onward → Answer
-seen_onward s t m (onward.Refused c later) = refused c (m + later)
-seen_onward s t m (onward.Accept n) = accepted (reading_of t n).program (reading_of t n).text
-seen_onward s t m (onward.On n at) = lines (m + 1) (reading_of t n) (pieces (drop at s))
-
-abbrev pub OnwardAfter : List ℕ → Lists → ℕ → Onward → Type 0
-OnwardAfter s t at (onward.Refused c later) = later ≤ 1
-OnwardAfter s t at (onward.Accept n) = SoundLists t n
-OnwardAfter s t at (onward.On n next) = SoundLists t n × Within n × (at < next) × (next ≤ length s) × (n.text ≤ next)
+-- after it, of the last n bytes of a text, before which k were stored
+abbrev pub OnwardAfter : Stored → ℕ → ℕ → Result (Option (Bor (List ℕ))) RefusedAt → Type 0
+OnwardAfter p n k (Ok None) = Sound p
+OnwardAfter p n k (Ok (Some s)) = Sound p × Within p.counts × (length s.now < n) × (p.counts.text + length s.now ≤ k + n)
+OnwardAfter p n k (Err e) = Unit {0}
 
 -- ---- the whole text
 
-abbrev pub seen_verdict : Lists → TextVerdict → Answer
-seen_verdict t (verdict.Taken n) = accepted (reading_of t n).program (reading_of t n).text
-seen_verdict t (verdict.Refused c m) = refused c m
-
-abbrev pub VerdictAfter : Lists → TextVerdict → Type 0
-VerdictAfter t (verdict.Taken n) = SoundLists t n
-VerdictAfter t (verdict.Refused c m) = Unit {0}
-
--- nothing but so many bytes of text
-abbrev pub no_counts : ℕ → Counts
-no_counts used = record { rules = 0; used = 0; filled = 0; entries = 0; levels = 0; symbols = 0; conditions = 0; names = 0; text = used; atoms = 0 }
-
-abbrev pub counts_of : TextVerdict → Counts
-counts_of (verdict.Taken n) = n
-counts_of (verdict.Refused c m) = no_counts 0
-
-abbrev pub answer_for : TextVerdict → Loading
-answer_for (verdict.Taken n) = Accepted
-answer_for (verdict.Refused c m) = RefusedAt c m
+abbrev pub seen_verdict : Stored → Result (Unit {0}) RefusedAt → Answer
+seen_verdict p (Ok u) = accepted (reading_in p).program (reading_in p).text
+seen_verdict p (Err e) = refused (refusal_number e.refusal) e.line
 
 -- ---- the stored program
-
-abbrev pub lists_of : Stored → Lists
-lists_of p = lists p.text p.pool p.rules p.priorities p.literals p.weights p.levels p.conditions p.symbols
 
 -- the program that is stored, and its text
 abbrev pub stored_program : Stored → Program
@@ -73,9 +40,9 @@ abbrev pub stored_text : Stored → List ℕ
 stored_text p = bytes_at p.text 0 p.counts.text
 
 -- What a load answers, in document 01's numbers: accepted, with the stored program and text; or the refusal's number and line.
-abbrev pub answer_of : Stored → Loading → Answer
-answer_of p Accepted = accepted (stored_program p) (stored_text p)
-answer_of p (RefusedAt c m) = refused c m
+abbrev pub answer_of : Result Stored RefusedAt → Answer
+answer_of (Ok p) = accepted (stored_program p) (stored_text p)
+answer_of (Err e) = refused (refusal_number e.refusal) e.line
 
 -- order 2: "Bound is 0 to 1,000,000,000, each weight 0 to 1,000,000"
 abbrev pub BodyWeighs : Body → Type 0
@@ -98,7 +65,3 @@ pub record WellFormed (p : Stored) : Type 0 where
   pub bodies : All (λ (r : Rule). BodyWeighs r.body) (stored_program p).rules
   pub levels : Descending (stored_program p).priorities
   pub symbols : (j : ℕ) → j < p.counts.symbols → ((row_at p.symbols j).a + (row_at p.symbols j).b ≤ p.counts.text) × ((row_at p.symbols j).c + (row_at p.symbols j).d ≤ p.counts.conditions)
-
-abbrev pub StoredAfter : Stored → Loading → Type 0
-StoredAfter p Accepted = WellFormed p
-StoredAfter p (RefusedAt c m) = (stored_program p ≡ empty_program) × (stored_text p ≡ [])

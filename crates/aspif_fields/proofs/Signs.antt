@@ -7,8 +7,8 @@ use mir.Syntax.{w32}
 use mir.Val.{SFits, to_z, of_z}
 use mir.Facts.{to_z-of_z}
 
--- no number of a text is beyond 1,000,000,000
-pub signed_fits : (z : ℤ) → nat_abs z ≤ 1000000000 → SFits w32 z
+-- no number of a text is beyond 1,000,000,001
+pub signed_fits : (z : ℤ) → nat_abs z ≤ 1000000001 → SFits w32 z
 signed_fits (pos n) h = record { sfits = omega arith }
 signed_fits (negsuc n) h = record { sfits = omega arith }
 
@@ -17,4 +17,4 @@ back z h = to_z-of_z (signed_fits z (omega arith))
 
 -- a bound or a weight of a body
 pub back_whole : (v : ℕ) → v ≤ 1000000000 → to_z w32 (of_z w32 (pos v)) ≡ pos v
-back_whole v h = to_z-of_z (signed_fits (pos v) h)
+back_whole v h = to_z-of_z (signed_fits (pos v) (omega arith))

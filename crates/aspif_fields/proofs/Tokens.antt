@@ -1,19 +1,19 @@
--- The rest of a line at a position, and the digits that it begins with, one by one. Assumes nothing.
-use mathlib.Core.Path.{◌≡◌, refl, sym, ◌∙◌}
+-- The digits that a line begins with, one by one, and what a number is by its token. Assumes nothing.
+use mathlib.Core.Path.{◌≡◌, refl, sym, ◌∙◌, subst}
 use mathlib.Core.Bool.{Bool, true, false, not, ◌&&◌, and-eq-true_iff}
 use mathlib.Core.List.{List, [], ◌∷◌}
 use mathlib.Core.Logic.{◌⊎◌, inl, inr, ⊎_elim}
 use Prim.Native.Nat.{ℕ, zero, suc, ◌+◌, ◌-◌, ◌*◌, ◌<◌, ◌≤◌, min}
 use native.Mathlib.Omega.{arith}
-use native.Mathlib.Numerals.{add-one}
 use lib.Dec.{leb, ltb, eqb}
 use lib.IntN.{ℤ, pos, negsuc, nat_abs}
-use lib.ListN.{length, get_or, drop, drop_of_length-le}
-use lib.Seq.{drop-cons, drop-drop}
-use borrow.Author.Tests.{ltb-true, ltb-false, leb-true, le-leb, lt-leb, ne_eqb, eqb-true}
+use lib.ListN.{length, drop, drop_of_length-le}
+use borrow.Author.Tests.{ltb-true, ltb-false, leb-true, lt-leb, ne_eqb}
+use Rattle.std.proofs.Math.Seq.{drop-length}
+use Rattle.std.proofs.lemmas.List.{length-drop, drop-drop}
 use Rattle.asp.specs.Sets.{pick}
-use Rattle.aspif_fields.specs.Fields.{Read, got, bad, bind, within, token, ranged, number, natural, with_sign, signing, signed_token, signed_up_to, signed, field, next, is_digit, digits, decimal, over, nil}
-use Rattle.aspif_fields.specs.SeenFields.{capped, cut_signed, capped_signed}
+use Rattle.aspif_fields.specs.Fields.{Read, got, bad, bind, within, formed, token, ranged, number, natural, with_sign, signing, signed_token, signed_up_to, signed, field, next, is_digit, digits, decimal, over}
+use Rattle.aspif_fields.specs.SeenFields.{capped, cut_signed, capped_signed, Ending}
 
 pub lt_or_le : (a b : ℕ) → (a < b) ⊎ (b ≤ a)
 lt_or_le a b = go (ltb a b) refl
@@ -22,41 +22,26 @@ lt_or_le a b = go (ltb a b) refl
     go true q = inl (ltb-true a b q)
     go false q = inr (ltb-false a b q)
 
-pub next_at : (s : List ℕ) (i : ℕ) → i < length s → next (drop i s) ≡ get_or s i 0
-next_at s i h = rw (drop-cons s i 0)
-
-pub next_past : (s : List ℕ) (i : ℕ) → length s ≤ i → next (drop i s) ≡ 0
-next_past s i h = rw (drop_of_length-le s h)
-
--- past the end there is no byte but 0
-pub next_in : (s : List ℕ) (i : ℕ) → 0 < next (drop i s) → i < length s
-next_in s i h = ⊎_elim (λ l. l) (λ g. absurd (omega (arith, next_past s i g))) (lt_or_le i (length s))
-
-pub over_at : (s : List ℕ) (i : ℕ) → i < length s → over (drop i s) ≡ eqb (get_or s i 0) 32
-over_at s i h = rw (drop-cons s i 0)
-
-pub over_past : (s : List ℕ) (i : ℕ) → length s ≤ i → over (drop i s) ≡ true
-over_past s i h = rw (drop_of_length-le s h)
-
-pub drop_one : (s : List ℕ) (i : ℕ) → drop 1 (drop i s) ≡ drop (i + 1) s
-drop_one s i = drop-drop 1 i s
-
 pub within_ends : (lo hi b : ℕ) → within lo hi b ≡ true → (lo ≤ b) × (b ≤ hi)
 within_ends lo hi b h = let e = (and-eq-true_iff (leb lo b) (leb b hi)).0 h in (leb-true lo b e.0, leb-true b hi e.1)
 
 pub digit_low : (b : ℕ) → is_digit b ≡ true → 48 ≤ b
 digit_low b h = (within_ends 48 57 b h).0
 
-pub digit_in : (s : List ℕ) (i : ℕ) → is_digit (next (drop i s)) ≡ true → i < length s
-digit_in s i h = next_in s i (omega (arith, digit_low (next (drop i s)) h))
+-- at the end there is no byte but 0, and 0 is no digit
+pub digit_in : (l : List ℕ) → is_digit (next l) ≡ true → 0 < length l
+digit_in [] h = absurd (omega (arith, digit_low 0 h))
+digit_in (b ∷ l) h = omega arith
 
-pub digits_more : (s : List ℕ) (i : ℕ) → is_digit (next (drop i s)) ≡ true → digits (drop i s) ≡ next (drop i s) ∷ digits (drop (i + 1) s)
+pub digits_more : (l : List ℕ) → is_digit (next l) ≡ true → digits l ≡ next l ∷ digits (drop 1 l)
 unfolding digits
-digits_more s i h = let l = digit_in s i h in let e = rw (next_at s i l) at h in rw (add-one, drop-cons s i 0, e)
+digits_more [] h = absurd (omega (arith, digit_low 0 h))
+digits_more (b ∷ l) h = rw h
 
-pub digits_none : (s : List ℕ) (i : ℕ) → is_digit (next (drop i s)) ≡ false → digits (drop i s) ≡ []
+pub digits_none : (l : List ℕ) → is_digit (next l) ≡ false → digits l ≡ []
 unfolding digits
-digits_none s i h = ⊎_elim (λ l. let e = rw (next_at s i l) at h in rw (drop-cons s i 0 l, e)) (λ g. rw (drop_of_length-le s g)) (lt_or_le i (length s))
+digits_none [] h = refl
+digits_none (b ∷ l) h = rw h
 
 abbrev limit : ℕ
 limit = 1000000001
@@ -68,21 +53,45 @@ cut (d ∷ ds) v =
     let e : min limit (min limit v * 10 + (d - 48)) ≡ min limit (v * 10 + (d - 48)) = omega arith in
     sym (cut ds (min limit v * 10 + (d - 48))) ∙ rw e (cut ds (v * 10 + (d - 48)))
 
-tests : (a b c : Bool) (v : ℕ) (r : List ℕ) → capped (pick (a && (not b && c)) (got v r) (bad 2)) ≡ pick a (pick b (bad 2) (pick c (got (min limit v) r) (bad 2))) (bad 2)
-tests false b c v r = refl
-tests true true c v r = refl
-tests true false true v r = refl
-tests true false false v r = refl
+-- what scanning the digits of s has come to: v is the value so far, and l is left
+pub record Scanning (s l : List ℕ) (v : ℕ) : Type 0 where
+  pub low : v ≤ 1000000001
+  pub value : min limit (decimal v (digits l)) ≡ min limit (decimal 0 (digits s))
+  pub past : drop (length (digits l)) l ≡ drop (length (digits s)) s
+  pub count : length l + length (digits s) ≡ length s + length (digits l)
 
--- a token by the tests of the code, in its order
-pub tokened : (s : List ℕ) (at nx v : ℕ) → nx ≡ at + length (digits (drop at s)) → v ≡ min limit (decimal 0 (digits (drop at s)))
-    → capped (token (drop at s)) ≡ pick (ltb 0 (nx - at)) (pick (eqb (next (drop at s)) 48 && ltb 1 (nx - at)) (bad 2) (pick (over (drop nx s)) (got v (drop nx s)) (bad 2))) (bad 2)
+pub scan_none : (s : List ℕ) → Scanning s s 0
+scan_none s = record { low = omega arith; value = refl; past = refl; count = refl }
+
+pub scan_more : (s l m : List ℕ) (v w b : ℕ) → Scanning s l v → is_digit (next l) ≡ true → b ≡ next l → w ≡ min limit (v * 10 + (b - 48)) → m ≡ drop 1 l → Scanning s m w
+unfolding decimal
+scan_more s [] m v w b h d e f g = absurd (omega (arith, digit_low 0 d))
+scan_more s (c ∷ l) m v w b h d e f g =
+    let more = digits_more (c ∷ l) d in
+    let z = rw more at h.value in
+    let p = rw more at h.past in
+    let q = rw more at h.count in
+    rw (g, f, e) (record { low = omega arith; value = cut (digits l) (v * 10 + (c - 48)) ∙ z; past = p; count = omega (arith, q) })
+
+pub scan_done : (s l : List ℕ) (v : ℕ) → Scanning s l v → is_digit (next l) ≡ false → (v ≡ min limit (decimal 0 (digits s))) × (l ≡ drop (length (digits s)) s) × (length l + length (digits s) ≡ length s)
+unfolding decimal
+scan_done s l v h d =
+    let none = digits_none l d in
+    let z = rw none at h.value in
+    let p = rw none at h.past in
+    let q = rw none at h.count in
+    (omega (arith, z, h.low), p, omega (arith, q))
+
+formed_cases : (b : Bool) (v : ℕ) (r : List ℕ) → capped (pick b (got v r) (bad 2)) ≡ pick b (got (min limit v) r) (bad 2)
+formed_cases true v r = refl
+formed_cases false v r = refl
+
+-- a token by the test of the code
+pub tokened : (l r : List ℕ) (n v : ℕ) (leads is_over ok : Bool) → n ≡ length (digits l) → v ≡ min limit (decimal 0 (digits l)) → r ≡ drop (length (digits l)) l
+    → leads ≡ eqb (next l) 48 → is_over ≡ over r → ok ≡ (ltb 0 n && (not (leads && ltb 1 n) && is_over)) → capped (token l) ≡ pick ok (got v r) (bad 2)
 unfolding token
-tokened s at nx v e f =
-    let n : ℕ = length (digits (drop at s)) in
-    let d : nx - at ≡ n = omega arith in
-    let r : drop nx s ≡ drop n (drop at s) = rw e (sym (drop-drop n at s)) in
-    rw (d, r, f) (tests (ltb 0 n) (eqb (next (drop at s)) 48 && ltb 1 n) (over (drop n (drop at s))) (decimal 0 (digits (drop at s))) (drop n (drop at s)))
+tokened l r n v leads is_over ok d f e g h k =
+    rw (k, h, g, e, f, d) (formed_cases (formed (length (digits l)) l) (decimal 0 (digits l)) (drop (length (digits l)) l))
 
 and_false : (a : Bool) → (a && false) ≡ false
 and_false true = refl
@@ -133,30 +142,18 @@ capped_sign true (got (suc v) r) =
     let e : min limit (suc v) ≡ suc (min 1000000000 v) = omega arith in
     rw (e, ne_eqb (suc (min 1000000000 v)) 0 (omega arith), ne_eqb (suc v) 0 (omega arith))
 
--- a space and a minus, or none
-pub minus_there : (l m : List ℕ) → drop 1 l ≡ m → (eqb (next l) 32 && eqb (next m) 45) ≡ true → field signed_token l ≡ bind (token (drop 1 m)) (signing true)
+-- a space, and then a minus or none
+pub minus_by : (l m r : List ℕ) (minus : Bool) → eqb (next l) 32 ≡ true → m ≡ drop 1 l → minus ≡ eqb (next m) 45 → r ≡ pick minus (drop 1 m) m
+    → capped_signed (field signed_token l) ≡ bind (capped (token r)) (signing minus)
 unfolding signed_token
-minus_there l m e h = rw e (go (eqb (next l) 32) (eqb (next m) 45) h)
+minus_by l m r minus h e f g = rw (h, ← e, ← f) (go minus g)
   where
-    go : (a b : Bool) → (a && b) ≡ true → pick a (pick b (bind (token (drop 1 m)) (signing true)) (bind (token m) (signing false))) (bad 2) ≡ bind (token (drop 1 m)) (signing true)
-    go true true q = refl
-    go true false q = let z : ◌≡◌ {A = ℕ} 0 1 = cc in absurd (omega arith)
-    go false b q = let z : ◌≡◌ {A = ℕ} 0 1 = cc in absurd (omega arith)
+    go : (b : Bool) → r ≡ pick b (drop 1 m) m → capped_signed (pick b (bind (token (drop 1 m)) (signing true)) (bind (token m) (signing false))) ≡ bind (capped (token r)) (signing b)
+    go true q = rw q (capped_sign true (token (drop 1 m)))
+    go false q = rw q (capped_sign false (token m))
 
-pub minus_absent : (l m : List ℕ) → drop 1 l ≡ m → (eqb (next l) 32 && eqb (next m) 45) ≡ false → field signed_token l ≡ bind (field token l) (signing false)
-unfolding signed_token
-minus_absent l m e h = rw e (go (eqb (next l) 32) (eqb (next m) 45) h)
-  where
-    go : (a b : Bool) → (a && b) ≡ false → pick a (pick b (bind (token (drop 1 m)) (signing true)) (bind (token m) (signing false))) (bad 2) ≡ bind (pick a (token m) (bad 2)) (signing false)
-    go true true q = let z : ◌≡◌ {A = ℕ} 0 1 = cc in absurd (omega arith)
-    go true false q = refl
-    go false b q = refl
-
--- a minus is a byte of the line
-pub minus_in : (s : List ℕ) (i : ℕ) → (eqb (next (drop i s)) 32 && eqb (next (drop (i + 1) s)) 45) ≡ true → i + 1 < length s
-minus_in s i h =
-    let e = (and-eq-true_iff (eqb (next (drop i s)) 32) (eqb (next (drop (i + 1) s)) 45)).0 h in
-    next_in s (i + 1) (omega (arith, eqb-true (next (drop (i + 1) s)) 45 e.1))
+pub no_space : (l : List ℕ) → eqb (next l) 32 ≡ false → field signed_token l ≡ bad 2
+no_space l h = rw h
 
 pub abs_sign : (minus : Bool) (v : ℕ) → nat_abs (with_sign minus v) ≡ v
 abs_sign false v = refl
@@ -185,5 +182,61 @@ pub signed_unnumbered : (hi : ℕ) (t : Read ℤ) → bad 2 ≡ capped_signed t 
 signed_unnumbered hi (bad c) q = sym q
 signed_unnumbered hi (got y u) q = let w : ◌≡◌ {A = ℕ} 0 1 = cc in absurd (omega arith)
 
-pub nil_at : (s : List ℕ) (i : ℕ) → leb (length s) i ≡ nil (drop i s)
-nil_at s i = ⊎_elim (λ l. rw (lt-leb (length s) i l, drop-cons s i 0 l)) (λ g. rw (le-leb (length s) i g, drop_of_length-le s g)) (lt_or_le i (length s))
+-- ---- what a number leaves of the line is its end
+
+pub drop_ending : (k : ℕ) (l : List ℕ) → Ending (drop k l) l
+drop_ending k l =
+    let n : length (drop k l) ≡ length l - k = length-drop k l in
+    record {
+      less = omega (arith, n);
+      is = ⊎_elim
+          (λ m. let e : length l - length (drop k l) ≡ k = omega (arith, n) in rw e)
+          (λ g. let e : length l - length (drop k l) ≡ length l = omega (arith, n) in rw (e, drop_of_length-le l {i = k} g, drop-length l))
+          (lt_or_le k (length l));
+    }
+
+ending_drop : (k : ℕ) (r l : List ℕ) → Ending r (drop k l) → Ending r l
+ending_drop k r l h =
+    let e : r ≡ drop (k + (length (drop k l) - length r)) l = h.is ∙ drop-drop (length (drop k l) - length r) k l in
+    subst (λ (m : List ℕ). Ending m l) (sym e) (drop_ending (k + (length (drop k l) - length r)) l)
+
+abbrev pub Leaves : {A : Type 0} → List ℕ → Read A → Type 0
+Leaves l (got a r) = Ending r l
+Leaves l (bad c) = Unit {0}
+
+token_leaves : (l : List ℕ) → Leaves l (token l)
+unfolding token
+token_leaves l = go (formed (length (digits l)) l)
+  where
+    go : (b : Bool) → Leaves l (pick b (got (decimal 0 (digits l)) (drop (length (digits l)) l)) (bad 2))
+    go true = drop_ending (length (digits l)) l
+    go false = tt
+
+pub number_leaves : (lo hi : ℕ) (l : List ℕ) → Leaves l (number lo hi l)
+unfolding number
+number_leaves lo hi l = go (token l) (token_leaves l)
+  where
+    in_range : (b : Bool) (v : ℕ) (r : List ℕ) → Ending r l → Leaves l (pick b (got v r) (bad 4))
+    in_range true v r h = h
+    in_range false v r h = tt
+    go : (t : Read ℕ) → Leaves l t → Leaves l (bind t (ranged lo hi))
+    go (got v r) h = in_range (within lo hi v) v r h
+    go (bad c) h = tt
+
+pub natural_leaves : (lo hi : ℕ) (l : List ℕ) → Leaves l (natural lo hi l)
+unfolding natural
+natural_leaves lo hi l = go (eqb (next l) 32)
+  where
+    up : (n : Read ℕ) → Leaves (drop 1 l) n → Leaves l n
+    up (got v r) h = ending_drop 1 r l h
+    up (bad c) h = tt
+    go : (b : Bool) → Leaves l (pick b (number lo hi (drop 1 l)) (bad 2))
+    go true = up (number lo hi (drop 1 l)) (number_leaves lo hi (drop 1 l))
+    go false = tt
+
+-- of a number that was read
+pub number_ending : (lo hi v : ℕ) (r l : List ℕ) → got v r ≡ number lo hi l → Ending r l
+number_ending lo hi v r l e = rw (← e) at (number_leaves lo hi l)
+
+pub natural_ending : (lo hi v : ℕ) (r l : List ℕ) → got v r ≡ natural lo hi l → Ending r l
+natural_ending lo hi v r l e = rw (← e) at (natural_leaves lo hi l)

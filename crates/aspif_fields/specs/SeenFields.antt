@@ -1,36 +1,42 @@
--- What the answers of the readers of fields mean: a position in a line stands for the rest of the line from there. Assumes nothing: these are definitions.
-use Rattle.std.specs.Prelude.{◌≡◌, false, List, ℕ, ◌≤◌, min, ℤ, pos, negsuc, nat_abs, drop}
+-- What the answers of the readers of fields mean, with what they leave of the line. Assumes nothing: these are definitions.
+use Rattle.std.specs.Prelude.{◌≡◌, List, ℕ, ◌-◌, ◌≤◌, min, ℤ, pos, negsuc, nat_abs, length, drop, Option, Some, None, Result, Ok, Err}
 use Rattle.asp.specs.Program.{Weighed, Entry}
-use Rattle.aspif_fields.specs.Fields.{Read, got, bad, with_sign, Opening}
-use Rattle.aspif_fields.specs.declared.token.Token.{Token}
-use Rattle.aspif_fields.specs.declared.token.Token.TheVariants as token
-use Rattle.aspif_fields.specs.declared.token.SignedToken.{SignedToken}
-use Rattle.aspif_fields.specs.declared.token.SignedToken.TheVariants as signed_token
-use Rattle.aspif_fields.specs.declared.field.Number.{Number}
-use Rattle.aspif_fields.specs.declared.field.Number.TheVariants as number
-use Rattle.aspif_fields.specs.declared.field.Signed.{Signed}
-use Rattle.aspif_fields.specs.declared.field.Signed.TheVariants as signed
+use Rattle.aspif_fields.specs.Fields.{Read, got, bad, Opening}
+use Rattle.aspif_fields.specs.Refusals.{refusal_number}
+use Rattle.aspif_fields.specs.declared.refusal.Refusal.{Refusal}
 use Rattle.aspif_fields.specs.declared.opening.Opens.{Opens}
-use Rattle.aspif_fields.specs.declared.opening.Opens.TheVariants as opens
 use Rattle.aspif_fields.specs.declared.pair.Pair.{Pair}
-use Rattle.aspif_fields.specs.declared.pair.Pair.TheVariants as pair
 
--- ---- the number of a refusal; 0, none
+-- what a value means, and what is left of the line; or the refusal's number
+abbrev pub read_as : {A B : Type 0} → (A → B) → Result A Refusal → List ℕ → Read B
+read_as f (Ok a) rest = got (f a) rest
+read_as f (Err e) rest = bad (refusal_number e)
 
-abbrev pub refusal : {A : Type 0} → Read A → ℕ
-refusal (got a l) = 0
-refusal (bad c) = c
+-- a value that means itself
+abbrev pub read : {A : Type 0} → Result A Refusal → List ℕ → Read A
+read r rest = read_as (λ a. a) r rest
 
--- ---- numbers
+-- what stands in the tables once it is read, and what is left of the line; or the refusal's number
+abbrev pub read_into : {A B : Type 0} → Result A Refusal → B → List ℕ → Read B
+read_into (Ok a) b rest = got b rest
+read_into (Err e) b rest = bad (refusal_number e)
+
+-- r is the end of the line l
+pub record Ending (r l : List ℕ) : Type 0 where
+  pub less : length r ≤ length l
+  pub is : r ≡ drop (length l - length r) l
+
+-- ---- numbers by their form
+
+-- "A place where a number is due and none stands is refusal 2."
+abbrev pub due : {A : Type 0} → Option A → List ℕ → Read A
+due (Some a) rest = got a rest
+due None rest = bad 2
 
 -- a token's value stops at 1,000,000,001, which is above every range
 abbrev pub capped : Read ℕ → Read ℕ
 capped (got v l) = got (min 1000000001 v) l
 capped (bad c) = bad c
-
-abbrev pub seen_token : List ℕ → Token → Read ℕ
-seen_token s (token.Digits v n) = got v (drop n s)
-seen_token s token.Malformed = bad 2
 
 -- the same with a minus
 abbrev pub cut_signed : ℤ → ℤ
@@ -41,47 +47,14 @@ abbrev pub capped_signed : Read ℤ → Read ℤ
 capped_signed (got z l) = got (cut_signed z) l
 capped_signed (bad c) = bad c
 
-abbrev pub seen_signed_token : List ℕ → SignedToken → Read ℤ
-seen_signed_token s (signed_token.Digits minus v n) = got (with_sign minus v) (drop n s)
-seen_signed_token s signed_token.Malformed = bad 2
+-- ---- how a rule opens, pairs
 
-abbrev pub seen_number : List ℕ → Number → Read ℕ
-seen_number s (number.Value v n) = got v (drop n s)
-seen_number s (number.Refused c) = bad c
+abbrev pub opening_of : Opens → Opening
+opening_of o = record { choice = o.choice; count = o.count }
 
-abbrev pub seen_signed : List ℕ → Signed → Read ℤ
-seen_signed s (signed.Whole z n) = got z (drop n s)
-seen_signed s (signed.Refused c) = bad c
-
-abbrev pub Between : ℕ → ℕ → Number → Type 0
-Between lo hi (number.Value v n) = (lo ≤ v) × (v ≤ hi)
-Between lo hi (number.Refused c) = Unit {0}
-
-abbrev pub Small : ℕ → Signed → Type 0
-Small hi (signed.Whole z n) = nat_abs z ≤ hi
-Small hi (signed.Refused c) = Unit {0}
-
--- ---- how a rule opens
-
-abbrev pub seen_opens : List ℕ → Opens → Read Opening
-seen_opens s (opens.Open ch m n) = got (record { choice = ch; count = m }) (drop n s)
-seen_opens s (opens.Refused c) = bad c
-
-abbrev pub OpensSmall : Opens → Type 0
-OpensSmall (opens.Open ch m n) = (m ≤ 1024) × (ch ≡ false → m ≤ 1)
-OpensSmall (opens.Refused c) = Unit {0}
-
--- ---- pairs
+abbrev pub entry_of : ℤ → Pair → Entry
+entry_of p q = record { priority = p; literal = q.literal; weight = q.weight }
 
 -- order 2: a pair of a body
-abbrev pub seen_weighed : List ℕ → Pair → Read Weighed
-seen_weighed s (pair.Paired z w n) = got (record { literal = z; weight = nat_abs w }) (drop n s)
-seen_weighed s (pair.Refused c) = bad c
-
-abbrev pub seen_pair : List ℕ → ℤ → Pair → Read Entry
-seen_pair s p (pair.Paired z w n) = got (record { priority = p; literal = z; weight = w }) (drop n s)
-seen_pair s p (pair.Refused c) = bad c
-
-abbrev pub PairSmall : Pair → Type 0
-PairSmall (pair.Paired z w n) = (nat_abs z ≤ 1024) × (nat_abs w ≤ 1000000)
-PairSmall (pair.Refused c) = Unit {0}
+abbrev pub weighed_of : Pair → Weighed
+weighed_of q = record { literal = q.literal; weight = nat_abs q.weight }

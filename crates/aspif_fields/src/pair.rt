@@ -1,71 +1,43 @@
 // Pairs of literal and weight: of a minimise line, and, order 2, of a body.
-ghost use Rattle.std.specs.Prelude.{◌≡◌, [], drop, ℤ, pos};
+ghost use Rattle.std.specs.Prelude.{◌≡◌, ◌≤◌, ℤ, nat_abs, IfOk};
 ghost use Rattle.aspif_fields.specs.Fields.{pair, weighed_field};
-ghost use Rattle.aspif_fields.specs.SeenFields.{refusal, seen_pair, PairSmall, seen_weighed};
+ghost use Rattle.aspif_fields.specs.SeenFields.{read_as, entry_of, weighed_of};
 
-use super::field::{Number, Signed, read_literal, read_natural, read_signed, whole};
+use super::field::whole;
+use super::refusal::Refusal;
+use super::token::Rest;
 
 const MOST_WEIGHT: u32 = 1000000; // order 1: "Weights now run from -1,000,000 to 1,000,000 and may have a minus."
 
-const MOST_BODY_WEIGHT: u32 = 1000000; // order 2: "each weight 0 to 1,000,000, and a minus .. is malformed"
+const MOST_BODY_WEIGHT: usize = 1000000; // order 2: "each weight 0 to 1,000,000, and a minus .. is malformed"
 
 // A literal and its weight.
-#[derive(Clone, Copy)]
-pub enum Pair {
-    Paired {
-        literal: i32,
-        weight: i32,
-        next: usize,
-    },
-    Refused {
-        code: u32,
-    },
+#[derive(Clone, Copy, PartialEq, Eq, Debug)]
+pub struct Pair {
+    pub literal: i32,
+    pub weight: i32,
 }
 
-impl Pair {
-    // The number of the refusal; 0, none.
-    pub fn code(self) -> u32
-        ensures { result ≡ refusal (seen_pair [] (pos 0) self) }
+impl<'a> Rest<'a> {
+    // Of a minimise line.
+    #[tactic(auto, unfolding(crate::specs::Fields::pair))]
+    pub fn read_pair(&mut self) -> Result<Pair, Refusal>
+        ensures answer { (p : ℤ) → read_as (entry_of p) result self.new.bytes.now ≡ pair p self.old.bytes.now }
+        ensures range { IfOk result (λ p. (nat_abs p.literal ≤ 1024) × (nat_abs p.weight ≤ 1000000)) }
     {
-        match self {
-            Pair::Refused { code } => code,
-            _ => 0,
-        }
+        let literal = self.read_literal()?;
+        let weight = self.read_signed(MOST_WEIGHT)?;
+        Ok(Pair { literal, weight })
     }
-}
 
-pub fn read_pair(s: &[u8], at: usize) -> Pair
-    ensures { ((p : ℤ) → seen_pair s.now p result ≡ pair p (drop at s.now)) × PairSmall result }
-{
-    let l = read_literal(s, at);
-    let Signed::Whole { value: z, next: a } = l else {
-        return Pair::Refused { code: l.code() };
-    };
-    let n = read_signed(s, a, MOST_WEIGHT);
-    let Signed::Whole { value: w, next } = n else {
-        return Pair::Refused { code: n.code() };
-    };
-    Pair::Paired {
-        literal: z,
-        weight: w,
-        next: next,
-    }
-}
-
-pub fn read_weighed(s: &[u8], at: usize) -> Pair
-    ensures { (seen_weighed s.now result ≡ weighed_field (drop at s.now)) × PairSmall result }
-{
-    let l = read_literal(s, at);
-    let Signed::Whole { value: z, next: a } = l else {
-        return Pair::Refused { code: l.code() };
-    };
-    let n = read_natural(s, a, 0, MOST_BODY_WEIGHT);
-    let Number::Value { value: w, next } = n else {
-        return Pair::Refused { code: n.code() };
-    };
-    Pair::Paired {
-        literal: z,
-        weight: whole(w),
-        next: next,
+    // Of a body.
+    #[tactic(auto, unfolding(crate::specs::Fields::weighed_field))]
+    pub fn read_weighed(&mut self) -> Result<Pair, Refusal>
+        ensures answer { read_as weighed_of result self.new.bytes.now ≡ weighed_field self.old.bytes.now }
+        ensures range { IfOk result (λ p. (nat_abs p.literal ≤ 1024) × (nat_abs p.weight ≤ 1000000)) }
+    {
+        let literal = self.read_literal()?;
+        let weight = whole(self.read_natural(0, MOST_BODY_WEIGHT)?);
+        Ok(Pair { literal, weight })
     }
 }

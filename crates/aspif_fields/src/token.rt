@@ -1,157 +1,159 @@
-// Numbers by their form: decimal digits with no leading zero that make up a whole field.
-ghost use Rattle.std.specs.Prelude.{◌&&◌, ◌≡◌, ◌+◌, ◌-◌, ◌*◌, ◌<◌, ◌≤◌, min, eqb, ltb, length, drop};
-ghost use Rattle.aspif_fields.specs.Fields.{next, is_digit, digits, decimal, over, token, field, signed_token};
-ghost use Rattle.aspif_fields.specs.SeenFields.{capped, seen_token, capped_signed, seen_signed_token};
-
-// The form of a number: its value, or 1,000,000,001 if that is less, and the position after it.
-#[derive(Clone, Copy)]
-pub enum Token {
-    Digits { value: u32, next: usize },
-    Malformed,
-}
-
-// The same of a number that may have a minus.
-#[derive(Clone, Copy)]
-pub enum SignedToken {
-    Digits {
-        minus: bool,
-        value: u32,
-        next: usize,
-    },
-    Malformed,
-}
+// What is left of a line, and numbers by their form: decimal digits with no leading zero that make up a whole field.
+ghost use Rattle.std.specs.Prelude.{◌&&◌, ◌≡◌, ◌+◌, ◌-◌, ◌*◌, ◌<◌, ◌≤◌, min, eqb, ltb, length, drop, true, false, not, nat_abs, IfSome, MatchOption};
+ghost use Rattle.asp.specs.Sets.{pick};
+ghost use Rattle.aspif_fields.specs.Fields.{next, is_digit, digits, decimal, nil, over, with_sign, token, field, signed_token};
+ghost use Rattle.aspif_fields.specs.SeenFields.{capped, capped_signed, due};
 
 // Above every range: no value of a token is greater.
-const BEYOND: u32 = 1000000001;
+const BEYOND: usize = 1000000001;
 
 // No digit more after a greater value is below it.
-const TENTH: u32 = 100000000;
+const TENTH: usize = 100000000;
 
-#[derive(Clone, Copy)]
-pub struct Scanned {
-    pub value: u32,
-    pub next: usize,
-}
-
-// The byte at i, and 0 past the end: so a caller has no index to show.
-pub fn byte_at(s: &[u8], i: usize) -> u8
-    ensures { result ≡ next (drop i s.now) }
-{
-    if i < s.len() { s[i] } else { 0 }
+// What is left of a line: each reader takes a field from its front.
+#[derive(Clone, Copy, PartialEq, Eq, Debug)]
+pub struct Rest<'a> {
+    pub bytes: &'a [u8],
 }
 
 pub fn is_digit(b: u8) -> bool
     ensures { result ≡ is_digit b }
 {
-    b'0' <= b && b <= b'9'
-}
-
-// A field is over at a space and at the end of the line.
-fn is_over(s: &[u8], i: usize) -> bool
-    ensures { result ≡ over (drop i s.now) }
-{
-    if i < s.len() { s[i] == 32 } else { true }
-}
-
-// A 0 at `at` before other digits, n in all.
-fn is_needless(s: &[u8], at: usize, n: usize) -> bool
-    ensures { result ≡ (eqb (next (drop at s.now)) 48 && ltb 1 n) }
-{
-    byte_at(s, at) == b'0' && 1 < n
-}
-
-fn wide(b: u8) -> u32
-    ensures { (result ≡ b) × (result < 256) }
-{
-    b as u32
+    b.is_ascii_digit()
 }
 
 // One more digit, and no more than 1,000,000,001.
-fn push(v: u32, b: u8) -> u32
+fn push(v: usize, b: u8) -> usize
     requires { (v ≤ 1000000001) × (48 ≤ b) }
     ensures { result ≡ min 1000000001 (v * 10 + (b - 48)) }
 {
     if TENTH < v {
         return BEYOND;
     }
-    let n = v * 10 + (wide(b) - 48);
-    if n < BEYOND { n } else { BEYOND }
+    (v * 10 + usize::from(b - b'0')).min(BEYOND)
 }
 
-// The digits from `at` on.
-fn scan(s: &[u8], at: usize) -> Scanned
-    ensures { (result.next ≡ at + length (digits (drop at s.now))) × (result.value ≡ min 1000000001 (decimal 0 (digits (drop at s.now)))) }
+// A literal, a priority or a weight, by its sign.
+fn with_sign(minus: bool, v: usize) -> i32
+    requires { v ≤ 1000000001 }
+    ensures { result ≡ with_sign minus v }
 {
-    let mut i = at;
-    let mut v: u32 = 0;
-    while is_digit(byte_at(s, i)) {
-        v = push(v, byte_at(s, i));
-        i += 1;
-    }
-    Scanned { value: v, next: i }
+    let z = v as i32;
+    if minus { -z } else { z }
 }
 
-// The number that stands at `at`, by its form.
-pub fn read_token(s: &[u8], at: usize) -> Token
-    ensures { seen_token s.now result ≡ capped (token (drop at s.now)) }
+// Whether n digits, with a leading 0 or none, make up a whole field: at least one, no 0 before others, and the field over.
+fn is_formed(n: usize, leads: bool, is_over: bool) -> bool
+    ensures { result ≡ (ltb 0 n && (not (leads && ltb 1 n) && is_over)) }
 {
-    let d = scan(s, at);
-    let next = d.next;
-    if next == at {
-        return Token::Malformed;
-    }
-    if is_needless(s, at, next - at) {
-        return Token::Malformed;
-    }
-    if is_over(s, next) {
-        return Token::Digits {
-            value: d.value,
-            next: next,
-        };
-    }
-    Token::Malformed
+    0 < n && !(leads && 1 < n) && is_over
 }
 
-// A space, and a number, by its form.
-pub fn read_field_token(s: &[u8], at: usize) -> Token
-    ensures { seen_token s.now result ≡ capped (field token (drop at s.now)) }
-{
-    if byte_at(s, at) != b' ' {
-        return Token::Malformed;
+impl<'a> Rest<'a> {
+    // The byte that comes next; 0, which no rule allows, at the end.
+    pub fn peek(&self) -> u8
+        ensures { result ≡ next self.now.bytes.now }
+    {
+        self.bytes.first().copied().unwrap_or(0)
     }
-    read_token(s, at + 1)
-}
 
-// A space and a minus.
-fn is_minus(s: &[u8], at: usize) -> bool
-    ensures { result ≡ (eqb (next (drop at s.now)) 32 && eqb (next (drop (at + 1) s.now)) 45) }
-{
-    byte_at(s, at) == b' ' && byte_at(s, at + 1) == b'-'
-}
+    // The line is over.
+    pub fn is_ended(&self) -> bool
+        ensures { result ≡ nil self.now.bytes.now }
+    {
+        self.bytes.is_empty()
+    }
 
-// A space, and a number that may have a minus, by its form: `-0` is malformed.
-pub fn read_signed_token(s: &[u8], at: usize) -> SignedToken
-    ensures { seen_signed_token s.now result ≡ capped_signed (field signed_token (drop at s.now)) }
-{
-    if is_minus(s, at) {
-        let Token::Digits { value, next } = read_token(s, at + 2) else {
-            return SignedToken::Malformed;
-        };
-        if value == 0 {
-            return SignedToken::Malformed;
+    // A field is over at a space and at the end of the line.
+    fn is_over(&self) -> bool
+        ensures { result ≡ over self.now.bytes.now }
+    {
+        match self.bytes.first() {
+            Some(b) => *b == b' ',
+            None => true,
         }
-        return SignedToken::Digits {
-            minus: true,
-            value: value,
-            next: next,
-        };
     }
-    let Token::Digits { value, next } = read_field_token(s, at) else {
-        return SignedToken::Malformed;
-    };
-    SignedToken::Digits {
-        minus: false,
-        value: value,
-        next: next,
+
+    // Past the next n bytes.
+    pub fn skip(&mut self, n: usize)
+        requires { n ≤ length self.old.bytes.now }
+        ensures { self.new.bytes.now ≡ drop n self.old.bytes.now }
+    {
+        self.bytes = &self.bytes[n..];
+    }
+
+    // The value of the digits that come next, past them.
+    fn scan(&mut self) -> usize
+        ensures value { result ≡ min 1000000001 (decimal 0 (digits self.old.bytes.now)) }
+        ensures past { self.new.bytes.now ≡ drop (length (digits self.old.bytes.now)) self.old.bytes.now }
+        ensures count { length self.new.bytes.now + length (digits self.old.bytes.now) ≡ length self.old.bytes.now }
+    {
+        let mut v: usize = 0;
+        while is_digit(self.peek()) {
+            v = push(v, self.peek());
+            self.skip(1);
+        }
+        v
+    }
+
+    // A number by its form: its value, or 1,000,000,001 if that is less.
+    #[tactic(auto, using(crate::proofs::Tokens::tokened))]
+    pub fn read_token(&mut self) -> Option<usize>
+        ensures { due result self.new.bytes.now ≡ capped (token self.old.bytes.now) }
+    {
+        let leads = self.peek() == b'0';
+        let length = self.bytes.len();
+        let value = self.scan();
+        let n = length - self.bytes.len();
+        if !is_formed(n, leads, self.is_over()) {
+            return None;
+        }
+        Some(value)
+    }
+
+    // A space, past it.
+    pub fn read_space(&mut self) -> Option<()>
+        ensures { MatchOption result (eqb (next self.old.bytes.now) 32 ≡ false) (λ u. (eqb (next self.old.bytes.now) 32 ≡ true) × (self.new.bytes.now ≡ drop 1 self.old.bytes.now)) }
+    {
+        if self.peek() != b' ' {
+            return None;
+        }
+        self.skip(1);
+        Some(())
+    }
+
+    // A space, and a number, by its form.
+    pub fn read_field_token(&mut self) -> Option<usize>
+        ensures { due result self.new.bytes.now ≡ capped (field token self.old.bytes.now) }
+    {
+        self.read_space()?;
+        self.read_token()
+    }
+
+    // A minus, past it where there is one.
+    fn read_minus(&mut self) -> bool
+        ensures answer { result ≡ eqb (next self.old.bytes.now) 45 }
+        ensures past { self.new.bytes.now ≡ pick result (drop 1 self.old.bytes.now) self.old.bytes.now }
+    {
+        let minus = self.peek() == b'-';
+        if minus {
+            self.skip(1);
+        }
+        minus
+    }
+
+    // A space, and a number that may have a minus, by its form: `-0` is malformed.
+    #[tactic(auto, using(crate::proofs::Tokens::minus_by, crate::proofs::Tokens::no_space))]
+    pub fn read_signed_token(&mut self) -> Option<i32>
+        ensures answer { due result self.new.bytes.now ≡ capped_signed (field signed_token self.old.bytes.now) }
+        ensures range { IfSome result (λ z. nat_abs z ≤ 1000000001) }
+    {
+        self.read_space()?;
+        let minus = self.read_minus();
+        let value = self.read_token()?;
+        if minus && value == 0 {
+            return None;
+        }
+        Some(with_sign(minus, value))
     }
 }

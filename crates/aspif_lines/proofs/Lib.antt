@@ -3,3 +3,4 @@ pub mod Heads
 pub mod Readings
 pub mod Pairs
 pub mod RowKinds
+pub mod Names

@@ -1,19 +1,25 @@
 -- Order 2: pairs in a pool, their literals first, then a place for the bound, then their weights. Assumes nothing.
-use mathlib.Core.Path.{◌≡◌, refl, ap, ◌∙◌}
-use mathlib.Core.Bool.{Bool, true, false, not}
+use mathlib.Core.Path.{◌≡◌, refl, ◌∙◌}
+use mathlib.Core.Bool.{true, false, not}
 use mathlib.Core.List.{List, [], ◌∷◌, ◌++◌}
-use Prim.Native.Nat.{ℕ, ◌+◌, ◌-◌, ◌<◌, ◌≤◌, max}
+use Prim.Native.Nat.{ℕ, zero, suc, ◌+◌, ◌<◌, ◌≤◌, max}
 use native.Mathlib.Omega.{arith}
-use lib.IntN.{ℤ, pos, neg_ℤ, nat_abs}
-use lib.ListN.{length, get_or, set, length-set}
+use lib.IntN.{ℤ, pos, negsuc, neg_ℤ, nat_abs}
+use lib.Seq.{drop-cons}
+use borrow.Author.Tests.{eqb-true, eq-eqb}
+use Rattle.std.specs.Bool.{Decides}
+use Rattle.std.proofs.lemmas.Bool.Decides.{same_from_decides, Decides-int_eq}
+use lib.ListN.{length, get_or, set, take, drop, length-set}
 use lib.Seq.{get_or-set_same, get_or-set_other}
+use Rattle.std.specs.Ordering.{int_eq}
+use Rattle.std.specs.List.{list_any}
 use Rattle.asp.specs.Literal.{same_ℤ, occurs_among, one_signed}
 use Rattle.asp.specs.Program.{Weighed, weighted, highest, All, LiteralIn}
-use Rattle.asp.specs.Tables.{literals_at, pair_at, pairs_at}
-use Rattle.asp.proofs.Spans.{span_more, span_none, span_at}
+use Rattle.asp.specs.Tables.{span, literals_at, pair_at, pairs_at}
 use Rattle.aspif_fields.specs.Fields.{got, weighed_field}
 use Rattle.aspif_lines.specs.Text.{more}
-use Rattle.aspif_lines.specs.Seen.{Kept, body_from, BodyGood}
+use Rattle.aspif_lines.specs.declared.body.BodyKind.{BodyKind}
+use Rattle.aspif_lines.specs.Seen.{is_weighed, is_both_signed, Kept, body_from, BodyGood}
 use Rattle.aspif_lines.proofs.Readings.{pairs_small}
 use Rattle.aspif_lines.proofs.Spans.{span_shift, span_snoc, literals_at_push, literals_at_kept, kept_refl, kept_set, highest_span}
 
@@ -69,56 +75,52 @@ module _ (pool : List ℤ) (k u : ℕ) (b : ℤ) (room : u + k < length pool) wh
 pub highest_pairs : (pool : List ℤ) (g i k : ℕ) → highest (λ (p : Weighed). nat_abs p.literal) (pairs_at pool g i k) ≡ highest nat_abs (literals_at pool i k)
 highest_pairs pool g i k = highest_span (λ (p : Weighed). nat_abs p.literal) (pair_at pool g) nat_abs (λ (j : ℕ). get_or pool j (pos 0)) i k (λ j. refl)
 
--- ---- the search for a literal from j on
+-- ---- the search for a literal
 
-pub record OccursLeft (l : ℤ) (pool : List ℤ) (i e j : ℕ) : Type 0 where
-  pub left : occurs_among l (literals_at pool j (e - j)) ≡ occurs_among l (literals_at pool i (e - i))
+pub same_decides : (l k : ℤ) → Decides (same_ℤ l k) (k ≡ l)
+same_decides (pos m) (pos n) = (λ e. let q : m ≡ n = eqb-true m n e in cc, λ e. eq-eqb m n (cc))
+same_decides (pos m) (negsuc n) = (λ e. cc, λ e. cc)
+same_decides (negsuc m) (pos n) = (λ e. cc, λ e. cc)
+same_decides (negsuc m) (negsuc n) = (λ e. let q : m ≡ n = eqb-true m n e in cc, λ e. eq-eqb m n (cc))
 
-abbrev at : List ℤ → ℕ → ℤ
-at pool j = get_or pool j (pos 0)
+same_eq : (l k : ℤ) → int_eq k l ≡ same_ℤ l k
+same_eq l k = same_from_decides (int_eq k l) (same_ℤ l k) (Decides-int_eq k l) (same_decides l k)
 
-module _ {l : ℤ} {pool : List ℤ} {i e : ℕ} where
-  pub occurs_start : OccursLeft l pool i e i
-  occurs_start = record { left = refl }
+pub occurs_any : (l : ℤ) (ks : List ℤ) → list_any (λ k. int_eq k l) ks ≡ occurs_among l ks
+unfolding occurs_among
+occurs_any l [] = refl
+occurs_any l (k ∷ ks) = rw (same_eq l k, occurs_any l ks)
 
-  pub occurs_here : {j : ℕ} {b : Bool} → OccursLeft l pool i e j → j < e → b ≡ same_ℤ l (at pool j) → b ≡ true → true ≡ occurs_among l (literals_at pool i (e - i))
-  unfolding occurs_among
-  occurs_here {j} h f q t = rw (span_more (at pool) j e f, ← q, t) at h.left
+-- ---- the search for a literal whose complement follows
 
-  pub occurs_next : {j : ℕ} {b : Bool} → OccursLeft l pool i e j → j < e → b ≡ same_ℤ l (at pool j) → b ≡ false → OccursLeft l pool i e (j + 1)
-  unfolding occurs_among
-  occurs_next {j} h f q t = record { left = rw (span_more (at pool) j e f, ← q, t) at h.left }
+-- the literals are small, and no literal before them is followed by its complement
+pub record SignsLeft (xs all : List ℤ) : Type 0 where
+  pub small : All (LiteralIn 1024) xs
+  pub left : one_signed xs ≡ one_signed all
 
-  pub occurs_none : {j : ℕ} → OccursLeft l pool i e j → e ≤ j → false ≡ occurs_among l (literals_at pool i (e - i))
-  unfolding occurs_among
-  occurs_none {j} h f = rw (span_none (at pool) j e f) at h.left
+module _ {xs all ys : List ℤ} {l : ℤ} where
+  pub signs_small : SignsLeft xs all → xs ≡ l ∷ ys → nat_abs l ≤ 1024
+  signs_small h e = (rw e at h.small).0.1
 
--- ---- the search for a literal that is followed by its complement
-
-pub record SignsLeft (pool : List ℤ) (i k e j : ℕ) : Type 0 where
-  pub end : e ≡ i + k
-  pub from : i ≤ j
-  pub small : All (LiteralIn 1024) (literals_at pool i k)
-  pub left : one_signed (literals_at pool j (e - j)) ≡ one_signed (literals_at pool i k)
-
-module _ {pool : List ℤ} {i k : ℕ} where
-  pub signs_start : {e : ℕ} → e ≡ i + k → All (LiteralIn 1024) (literals_at pool i k) → SignsLeft pool i k e i
-  signs_start {e} q a = record { end = q; from = omega arith; small = a; left = let z : e - i ≡ k = omega arith in rw z }
-
-  pub signs_small : {e j : ℕ} → SignsLeft pool i k e j → j < e → nat_abs (get_or pool j (pos 0)) ≤ 1024
-  signs_small {e} {j} h f = (span_at (at pool) (LiteralIn 1024) i k h.small j h.from (omega (arith, h.end))).1
-
-  pub signs_mixed : {e j : ℕ} {b : Bool} → SignsLeft pool i k e j → j < e → b ≡ occurs_among (neg_ℤ (get_or pool j (pos 0))) (literals_at pool (j + 1) (e - (j + 1))) → b ≡ true → false ≡ one_signed (literals_at pool i k)
+  pub signs_mixed : SignsLeft xs all → xs ≡ l ∷ ys → true ≡ occurs_among (neg_ℤ l) ys → false ≡ one_signed all
   unfolding one_signed
-  signs_mixed {e} {j} h f q t = rw (span_more (at pool) j e f, ← q, t) at h.left
+  signs_mixed h e q = rw (e, ← q) at h.left
 
-  pub signs_next : {e j : ℕ} {b : Bool} → SignsLeft pool i k e j → j < e → b ≡ occurs_among (neg_ℤ (get_or pool j (pos 0))) (literals_at pool (j + 1) (e - (j + 1))) → b ≡ false → SignsLeft pool i k e (j + 1)
+  pub signs_next : SignsLeft xs all → xs ≡ l ∷ ys → false ≡ occurs_among (neg_ℤ l) ys → SignsLeft ys all
   unfolding one_signed
-  signs_next {e} {j} h f q t = record { end = h.end; from = omega (arith, h.from); small = h.small; left = rw (span_more (at pool) j e f, ← q, t) at h.left }
+  signs_next h e q = record { small = (rw e at h.small).1; left = rw (e, ← q) at h.left }
 
-  pub signs_done : {e j : ℕ} → SignsLeft pool i k e j → e ≤ j → true ≡ one_signed (literals_at pool i k)
-  unfolding one_signed
-  signs_done {e} {j} h f = rw (span_none (at pool) j e f) at h.left
+pub signs_done : (xs all : List ℤ) → SignsLeft xs all → length xs ≡ 0 → true ≡ one_signed all
+unfolding one_signed
+signs_done [] all h e = h.left
+signs_done (x ∷ xs) all h e = absurd (omega (arith, e))
+
+-- ---- a part of a pool
+
+pub slice_literals : (xs : List ℤ) (u k : ℕ) → u + k ≤ length xs → take k (drop u xs) ≡ literals_at xs u k
+unfolding span
+slice_literals xs u zero h = refl
+slice_literals xs u (suc k) h = let f : u < length xs = omega arith in let s : suc u ≡ u + 1 = omega arith in rw (drop-cons xs u (pos 0), s, slice_literals xs (u + 1) k (omega arith))
 
 -- ---- a weighted body: its pairs were read from u on, and its bound put behind their literals
 
@@ -126,16 +128,20 @@ module _ {pool₀ pool : List ℤ} {u : ℕ} (k : ℕ) (kept : Kept (pos 0) u po
   inside : u + k < length pool
   inside = omega (arith, kept.long)
 
-  pub bounded_small : (l r : List ℕ) (b : ℤ) → got (pairs_at pool (k + 1) u k) r ≡ more weighed_field k [] l → (u + k ≤ length (set pool (u + k) b)) × All (LiteralIn 1024) (literals_at (set pool (u + k) b) u k)
-  bounded_small l r b e = (omega (arith, inside, length-set pool (u + k) b), rw (literals_bounded pool k u b inside) (pairs_small pool u k l r e))
+  -- the literals, as a part of the pool
+  pub bounded_slice : (n : ℕ) (b : ℤ) → n ≡ k → take n (drop u (set pool (u + k) b)) ≡ literals_at pool u k
+  bounded_slice n b e = rw (e, slice_literals (set pool (u + k) b) u k (omega (arith, inside, length-set pool (u + k) b)), literals_bounded pool k u b inside)
+
+  pub bounded_small : (l r : List ℕ) (b : ℤ) (n : ℕ) → n ≡ k → got (pairs_at pool (k + 1) u k) r ≡ more weighed_field k [] l → All (LiteralIn 1024) (take n (drop u (set pool (u + k) b)))
+  bounded_small l r b n q e = rw (bounded_slice n b q) (pairs_small pool u k l r e)
 
   pub bounded_body : (v : ℕ) → body_from (set pool (u + k) (pos v)) true u k ≡ weighted v (pairs_at pool (k + 1) u k)
   bounded_body v = rw (bound_there pool k u (pos v) inside, pairs_bounded pool k u (pos v) inside)
 
-  pub bounded_good : {b : Bool} {top t : ℕ} (v : ℕ) → b ≡ one_signed (literals_at (set pool (u + k) (pos v)) u k) → t ≡ max top (highest nat_abs (literals_at pool u k)) → BodyGood (set pool (u + k) (pos v)) true (not b) u k top t
-  bounded_good v s e =
+  pub bounded_good : {b : BodyKind} {top t : ℕ} (v n : ℕ) → n ≡ k → is_weighed b ≡ true → is_both_signed b ≡ not (one_signed (take n (drop u (set pool (u + k) (pos v))))) → t ≡ max top (highest nat_abs (literals_at pool u k)) → BodyGood (set pool (u + k) (pos v)) u top (record { kind = b; count = k; top = t })
+  bounded_good {b} v n q w s e =
       record {
         few = few;
-        signed = λ q. ap not s;
-        atoms = e ∙ rw (highest_pairs (set pool (u + k) (pos v)) (k + 1) u k, literals_bounded pool k u (pos v) inside);
+        signed = λ z. rw (literals_bounded pool k u (pos v) inside, ← bounded_slice n (pos v) q) s;
+        atoms = e ∙ rw (w, highest_pairs (set pool (u + k) (pos v)) (k + 1) u k, literals_bounded pool k u (pos v) inside);
       }

@@ -10,7 +10,8 @@ use Rattle.asp.specs.Program.{highest, head_atoms, rule_atoms}
 use Rattle.asp.specs.Tables.{literals_at, named, is_choice, is_weighted, is_mixed, rule_at}
 use Rattle.asp.proofs.Spans.{map_span}
 use Rattle.aspif_lines.specs.Text.{head_of, rule_of}
-use Rattle.aspif_lines.specs.Seen.{Kept, Positive, body_from, BodyGood, kind_of, rule_row, RuleGood}
+use Rattle.aspif_lines.specs.Seen.{Kept, Positive, body_from, BodyGood, is_weighed, is_both_signed, kind_of, rule_row, RuleGood}
+use Rattle.aspif_lines.specs.declared.body.BodyPart.{BodyPart}
 use Rattle.aspif_lines.proofs.Spans.{span_length}
 use Rattle.aspif_lines.proofs.Heads.{head_atoms_lem, length_map}
 
@@ -58,18 +59,20 @@ rule_at_lem pool i m k false w x = rw (kind_choice false w x, kind_weighted fals
 pub rule_left : {p q : List ℤ} {n : ℕ} → Kept (pos 0) n p q → (i m k : ℕ) (c w x : Bool) → rule_at q (rule_row (kind_of c w x) i m k) ≡ rule_of c (literals_at q i m) (body_from q w (i + m) k)
 rule_left {p} {q} h = rule_at_lem q
 
-module _ (pool : List ℤ) (i m k : ℕ) (c w x : Bool) where
-  pub rule_good : {top t u : ℕ} → m ≤ 1024 → (c ≡ false → m ≤ 1) → Positive (literals_at pool i m) → t ≡ max top (highest nat_abs (literals_at pool i m)) → BodyGood pool w x (i + m) k t u
-      → RuleGood pool (rule_row (kind_of c w x) i m k) top u
-  rule_good few one p e b =
+module _ (pool : List ℤ) (i m : ℕ) (c : Bool) (b : BodyPart) where
+  pub rule_good : {top t : ℕ} → m ≤ 1024 → (c ≡ false → m ≤ 1) → Positive (literals_at pool i m) → t ≡ max top (highest nat_abs (literals_at pool i m)) → BodyGood pool (i + m) t b
+      → RuleGood pool (rule_row (kind_of c (is_weighed b.kind) (is_both_signed b.kind)) i m b.count) top b.top
+  rule_good few one p e good =
+      let w : Bool = is_weighed b.kind in
+      let x : Bool = is_both_signed b.kind in
       let hs : List ℤ = literals_at pool i m in
       let a : head_atoms (head_of c (map named hs)) ≡ highest (λ (a : ℕ). a) (map named hs) =
       head_atoms_lem c (map named hs) (λ q. omega (arith, one q, length_map named hs, span_length (λ (j : ℕ). get_or pool j (pos 0)) i m)) in
       record {
         kind = kind_small c w x;
         heads = few;
-        body = b.few;
+        body = good.few;
         single = λ q. one (sym (kind_choice c w x) ∙ q);
-        signed = λ q. let v : w ≡ true = sym (kind_weighted c w x) ∙ q in kind_mixed c w x v ∙ b.signed v;
-        atoms = omega (arith, ap rule_atoms (rule_at_lem pool i m k c w x), a, p.positive, e, b.atoms);
+        signed = λ q. let v : w ≡ true = sym (kind_weighted c w x) ∙ q in kind_mixed c w x v ∙ good.signed v;
+        atoms = omega (arith, ap rule_atoms (rule_at_lem pool i m b.count c w x), a, p.positive, e, good.atoms);
       }

@@ -3,6 +3,7 @@ use mathlib.Core.Path.{◌≡◌, refl, ap, ◌∙◌}
 use mathlib.Core.List.{List, [], ◌∷◌, ◌++◌}
 use Prim.Native.Nat.{ℕ, zero, suc, ◌+◌, ◌-◌, ◌*◌, ◌<◌, ◌≤◌, max}
 use native.Mathlib.Omega.{arith}
+use native.Mathlib.Nat.{sub-zero}
 use lib.IntN.{ℤ, pos}
 use lib.ListN.{length, get_or, set, length-set}
 use lib.Seq.{get_or-set_same, get_or-set_other}
@@ -60,18 +61,25 @@ kept_less d m n xs ys h l = record { same = λ j k. h.same j (omega arith); long
 pub kept_then : {A : Type 0} (d : A) (m n : ℕ) (xs ys zs : List A) → Kept d m xs ys → Kept d n ys zs → m ≤ n → Kept d m xs zs
 kept_then d m n xs ys zs g h l = record { same = λ j k. h.same j (omega arith) ∙ g.same j k; long = h.long ∙ g.long }
 
-module _ {A : Type 0} (f : List ℕ → Read A) (k i : ℕ) (xs : List A) (l : List ℕ) where
-  pub more_got : (a : A) (r : List ℕ) → i < k → f l ≡ got a r → more f (k - i) xs l ≡ more f (k - (i + 1)) (xs ++ (a ∷ [])) r
-  unfolding more
-  more_got a r h e = let s : k - i ≡ suc (k - (i + 1)) = omega arith in rw (s, e)
+-- what is left of reading k of what f reads, from l₀ on: i of them are the xs, and l follows
+pub record MoreLeft {A : Type 0} (f : List ℕ → Read A) (k i : ℕ) (xs : List A) (l l₀ : List ℕ) : Type 0 where
+  pub left : more f (k - i) xs l ≡ more f k [] l₀
 
-  pub more_bad : (c : ℕ) → i < k → f l ≡ bad c → more f (k - i) xs l ≡ bad c
-  unfolding more
-  more_bad c h e = let s : k - i ≡ suc (k - (i + 1)) = omega arith in rw (s, e)
+module _ {A : Type 0} {f : List ℕ → Read A} {k : ℕ} {l₀ : List ℕ} where
+  pub more_start : MoreLeft f k 0 [] l₀ l₀
+  more_start = record { left = rw (sub-zero k) }
 
-  pub more_done : k ≤ i → more f (k - i) xs l ≡ got xs l
+  pub more_next : {i : ℕ} {xs : List A} {l : List ℕ} (a : A) (r : List ℕ) → MoreLeft f k i xs l l₀ → i < k → got a r ≡ f l → MoreLeft f k (i + 1) (xs ++ (a ∷ [])) r l₀
   unfolding more
-  more_done h = let s : k - i ≡ 0 = omega arith in rw s
+  more_next {i} a r h q e = let s : k - i ≡ suc (k - (i + 1)) = omega arith in record { left = rw (s, ← e) at h.left }
+
+  pub more_stop : {i : ℕ} {xs : List A} {l : List ℕ} {c : ℕ} → MoreLeft f k i xs l l₀ → i < k → bad c ≡ f l → bad c ≡ more f k [] l₀
+  unfolding more
+  more_stop {i} h q e = let s : k - i ≡ suc (k - (i + 1)) = omega arith in rw (s, ← e) at h.left
+
+  pub more_done : {i : ℕ} {xs : List A} {l : List ℕ} → MoreLeft f k i xs l l₀ → k ≤ i → got xs l ≡ more f k [] l₀
+  unfolding more
+  more_done {i} h q = let s : k - i ≡ 0 = omega arith in rw s at h.left
 
 -- one more entry
 pub entries_push : (ps ls ws : List ℤ) (i k : ℕ) (p z w : ℤ) → i + k < length ps → i + k < length ls → i + k < length ws

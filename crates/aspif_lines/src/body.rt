@@ -1,110 +1,104 @@
 // The body of a rule: `0 k literals`, or, order 2, `1 bound k` and k pairs of literal and weight.
-ghost use Rattle.std.specs.Prelude.{◌≡◌, [], ◌+◌, ◌≤◌, length, drop, pos};
+ghost use Rattle.std.specs.Prelude.{◌≡◌, ◌+◌, ◌≤◌, true, not, length, pos, IfOk};
+ghost use Rattle.asp.specs.Literal.{one_signed};
+ghost use Rattle.asp.specs.Program.{All, LiteralIn};
+ghost use Rattle.aspif_fields.specs.SeenFields.{read_as};
 ghost use Rattle.aspif_lines.specs.Text.{normal_body, weighted_body, body_field};
-ghost use Rattle.aspif_fields.specs.SeenFields.{refusal};
-ghost use Rattle.aspif_lines.specs.Seen.{seen_body, BodyFound, Kept};
+ghost use Rattle.aspif_lines.specs.Seen.{is_weighed, is_both_signed, body_in, BodyGood, Kept};
 
-use super::members::{Listed, read_members};
+use super::members::read_members;
 use super::weighted::{is_one_signed, read_weights};
-use aspif_fields::field::{MOST_COUNT, Number, read_natural, size, whole};
+use aspif_fields::field::{MOST_COUNT, whole};
+use aspif_fields::refusal::Refusal;
+use aspif_fields::token::Rest;
 
-const MOST_BOUND: u32 = 1000000000; // order 2: "Bound is 0 to 1,000,000,000"
+const MOST_BOUND: usize = 1000000000; // order 2: "Bound is 0 to 1,000,000,000"
 
-// A body in the pool: whether it is weighted, and then whether some atom stands with both signs in it; how many literals, where it ends, the highest atom so far.
-#[derive(Clone, Copy)]
-pub enum BodyPart {
-    Body {
-        weighted: bool,
-        mixed: bool,
-        count: usize,
-        next: usize,
-        top: usize,
-    },
-    Refused {
-        code: u32,
-    },
+// What a body is: its literals, or, order 2, pairs, in which each atom stands with one sign, or some atom with both.
+#[derive(Clone, Copy, PartialEq, Eq, Debug)]
+pub enum BodyKind {
+    Normal,
+    Weighted,
+    Mixed,
 }
 
-impl BodyPart {
-    // The number of the refusal; 0, none.
-    pub fn code(self) -> u32
-        ensures { result ≡ refusal (seen_body [] [] 0 self) }
-    {
-        match self {
-            BodyPart::Refused { code } => code,
-            _ => 0,
-        }
+// A body in the pool: how many literals it has, and the highest atom so far.
+#[derive(Clone, Copy, PartialEq, Eq, Debug)]
+pub struct BodyPart {
+    pub kind: BodyKind,
+    pub count: usize,
+    pub top: usize,
+}
+
+// Of a body with these literals and their weights.
+fn weighed_kind(literals: &[i32]) -> BodyKind
+    requires { All (LiteralIn 1024) literals.now }
+    ensures weighed { is_weighed result ≡ true }
+    ensures signed { is_both_signed result ≡ not (one_signed literals.now) }
+{
+    if is_one_signed(literals) {
+        BodyKind::Weighted
+    } else {
+        BodyKind::Mixed
     }
 }
 
 // `k literals`
-fn read_normal(s: &[u8], at: usize, pool: &mut [i32], used: usize, top: usize) -> BodyPart
+#[tactic(auto, unfolding(crate::specs::Text::normal_body))]
+fn read_normal(
+    rest: &mut Rest,
+    pool: &mut [i32],
+    used: usize,
+    start: usize,
+) -> Result<BodyPart, Refusal>
     requires { used + 1024 ≤ length pool.old }
-    ensures { (seen_body s.now pool.new used result ≡ normal_body (drop at s.now)) × BodyFound pool.new used top result × Kept (pos 0) used pool.old pool.new }
+    ensures answer { read_as (body_in pool.new used) result rest.new.bytes.now ≡ normal_body rest.old.bytes.now }
+    ensures good { IfOk result (BodyGood pool.new used start) }
+    ensures kept { Kept (pos 0) used pool.old pool.new }
 {
-    let n = read_natural(s, at, 0, MOST_COUNT);
-    let Number::Value { value: k, next: a } = n else {
-        return BodyPart::Refused { code: n.code() };
-    };
-    let count = size(k);
-    let l = read_members(s, a, false, count, pool, used, top);
-    let Listed::Upto { next: e, top: t } = l else {
-        return BodyPart::Refused { code: l.code() };
-    };
-    BodyPart::Body {
-        weighted: false,
-        mixed: false,
-        count: count,
-        next: e,
-        top: t,
-    }
+    let kind = BodyKind::Normal;
+    let count = rest.read_natural(0, MOST_COUNT)?;
+    let top = read_members(rest, |rest| rest.read_literal(), count, pool, used, start)?;
+    Ok(BodyPart { kind, count, top })
 }
 
 // `bound k` and k pairs: the bound is stored behind the literals.
-fn read_weighted(s: &[u8], at: usize, pool: &mut [i32], used: usize, top: usize) -> BodyPart
+#[tactic(auto, unfolding(crate::specs::Text::weighted_body))]
+fn read_weighted(
+    rest: &mut Rest,
+    pool: &mut [i32],
+    used: usize,
+    start: usize,
+) -> Result<BodyPart, Refusal>
     requires { used + 2049 ≤ length pool.old }
-    ensures { (seen_body s.now pool.new used result ≡ weighted_body (drop at s.now)) × BodyFound pool.new used top result × Kept (pos 0) used pool.old pool.new }
+    ensures answer { read_as (body_in pool.new used) result rest.new.bytes.now ≡ weighted_body rest.old.bytes.now }
+    ensures good { IfOk result (BodyGood pool.new used start) }
+    ensures kept { Kept (pos 0) used pool.old pool.new }
 {
-    let b = read_natural(s, at, 0, MOST_BOUND);
-    let Number::Value {
-        value: bound,
-        next: a,
-    } = b
-    else {
-        return BodyPart::Refused { code: b.code() };
-    };
-    let n = read_natural(s, a, 0, MOST_COUNT);
-    let Number::Value { value: k, next: c } = n else {
-        return BodyPart::Refused { code: n.code() };
-    };
-    let count = size(k);
-    let l = read_weights(s, c, count, pool, used, top);
-    let Listed::Upto { next: e, top: t } = l else {
-        return BodyPart::Refused { code: l.code() };
-    };
-    let j = used + count;
-    pool[j] = whole(bound);
-    let mixed = !is_one_signed(pool, used, count);
-    BodyPart::Body {
-        weighted: true,
-        mixed: mixed,
-        count: count,
-        next: e,
-        top: t,
-    }
+    let bound = rest.read_natural(0, MOST_BOUND)?;
+    let count = rest.read_natural(0, MOST_COUNT)?;
+    let top = read_weights(rest, count, pool, used, start)?;
+    pool[used + count] = whole(bound);
+    let kind = weighed_kind(&pool[used..used + count]);
+    Ok(BodyPart { kind, count, top })
 }
 
 // `b` and what it leads to.
-pub fn read_body(s: &[u8], at: usize, pool: &mut [i32], used: usize, top: usize) -> BodyPart
+#[tactic(auto, unfolding(crate::specs::Text::body_field))]
+pub fn read_body(
+    rest: &mut Rest,
+    pool: &mut [i32],
+    used: usize,
+    start: usize,
+) -> Result<BodyPart, Refusal>
     requires { used + 2049 ≤ length pool.old }
-    ensures { (seen_body s.now pool.new used result ≡ body_field (drop at s.now)) × BodyFound pool.new used top result × Kept (pos 0) used pool.old pool.new }
+    ensures answer { read_as (body_in pool.new used) result rest.new.bytes.now ≡ body_field rest.old.bytes.now }
+    ensures good { IfOk result (BodyGood pool.new used start) }
+    ensures kept { Kept (pos 0) used pool.old pool.new }
 {
-    let n = read_natural(s, at, 0, 1);
-    let Number::Value { value: b, next } = n else {
-        return BodyPart::Refused { code: n.code() };
-    };
-    if b == 1 {
-        return read_weighted(s, next, pool, used, top);
+    if rest.read_natural(0, 1)? == 1 {
+        read_weighted(rest, pool, used, start)
+    } else {
+        read_normal(rest, pool, used, start)
     }
-    read_normal(s, next, pool, used, top)
 }

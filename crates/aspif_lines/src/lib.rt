@@ -1,5 +1,5 @@
 // The statements of aspif 1.0.0, as document 01 restricts it: rules, minimise lines and symbols, read from a line into lent tables, field by field (aspif_fields).
-// Each reader works on one line and a position in it; a position stands for the rest of the line.
+// Each reader takes what it reads from the front of what is left of the line.
 #![tactic(auto)]
 
 pub mod room; // the sizes of the tables

@@ -1,77 +1,50 @@
 // Counted lists: the atoms of a head, the literals of a body or a condition, stored in a pool.
-ghost use Rattle.std.specs.Prelude.{◌≡◌, [], ◌+◌, ◌<◌, ◌≤◌, max, length, drop, pos, nat_abs};
+ghost use Rattle.std.specs.Prelude.{◌≡◌, ◌≤◌, ◌+◌, Bool, [], max, length, pos, nat_abs, true, false, IfOk, MatchResult};
+ghost use Rattle.asp.specs.Program.{highest};
+ghost use Rattle.asp.specs.Tables.{literals_at};
+ghost use Rattle.aspif_fields.specs.Fields.{nil};
+ghost use Rattle.aspif_fields.specs.Refusals.{refusal_number};
+ghost use Rattle.aspif_fields.specs.SeenFields.{read_into};
 ghost use Rattle.aspif_lines.specs.Text.{member_field, more};
-ghost use Rattle.aspif_fields.specs.SeenFields.{refusal, seen_signed, Small};
-ghost use Rattle.aspif_lines.specs.Seen.{seen_lits, TopOf, Kept};
+ghost use Rattle.aspif_lines.specs.Seen.{MemberRead, Kept};
 
 use asp::literal::atom;
-use aspif_fields::field::{Signed, read_atom, read_literal};
+use aspif_fields::refusal::Refusal;
+use aspif_fields::token::Rest;
 
-// A list read up to a position, with the highest atom so far; or the refusal in it.
-#[derive(Clone, Copy)]
-pub enum Listed {
-    Upto { next: usize, top: usize },
-    Refused { code: u32 },
-}
-
-impl Listed {
-    // The number of the refusal; 0, none.
-    pub fn code(self) -> u32
-        ensures { result ≡ refusal (seen_lits [] [] 0 0 self) }
-    {
-        match self {
-            Listed::Refused { code } => code,
-            _ => 0,
-        }
-    }
-}
-
-// A head's atom, or a body's literal.
-fn read_member(s: &[u8], at: usize, head: bool) -> Signed
-    ensures { (seen_signed s.now result ≡ member_field head (drop at s.now)) × Small 1024 result }
-{
-    if head {
-        read_atom(s, at)
-    } else {
-        read_literal(s, at)
-    }
-}
-
-// The higher of an atom and a literal's.
-pub fn higher(top: usize, l: i32) -> usize
-    requires { nat_abs l ≤ 1024 }
-    ensures { result ≡ max top (nat_abs l) }
-{
-    let a = atom(l);
-    if top < a { a } else { top }
-}
-
-// k members, stored in the pool from `used` on.
-pub fn read_members(
-    s: &[u8],
-    at: usize,
-    head: bool,
+// k members, each as `member` reads it, stored in the pool from `used` on. The highest atom so far.
+pub fn read_members<F: Fn(&mut Rest) -> Result<i32, Refusal>>(
+    rest: &mut Rest,
+    member: F,
     k: usize,
     pool: &mut [i32],
     used: usize,
     start: usize,
-) -> Listed
-    requires { used + k ≤ length pool.old }
-    ensures { (seen_lits s.now pool.new used k result ≡ more (member_field head) k [] (drop at s.now)) × TopOf pool.new used k start result × Kept (pos 0) used pool.old pool.new }
+) -> Result<usize, Refusal>
+    ghost head: { Bool }
+    requires room { used + k ≤ length pool.old }
+    requires can { F.IsAlwaysCallable member }
+    requires reads { (x : _) (r : _) (y : _) → F.post member x r y → MemberRead head r x.now.bytes.now y.now.bytes.now }
+    ensures answer { read_into result (literals_at pool.new used k) rest.new.bytes.now ≡ more (member_field head) k [] rest.old.bytes.now }
+    ensures top { IfOk result (λ t. t ≡ max start (highest nat_abs (literals_at pool.new used k))) }
+    ensures kept { Kept (pos 0) used pool.old pool.new }
 {
-    let mut p = at;
     let mut top = start;
-    let mut i: usize = 0;
-    while i < k {
-        let m = read_member(s, p, head);
-        let Signed::Whole { value, next } = m else {
-            return Listed::Refused { code: m.code() };
-        };
-        let j = used + i;
-        pool[j] = value;
-        top = higher(top, value);
-        p = next;
-        i += 1;
+    for i in 0..k {
+        let literal = member(rest)?;
+        pool[used + i] = literal;
+        top = top.max(atom(literal));
     }
-    Listed::Upto { next: p, top: top }
+    Ok(top)
+}
+
+// "with none at the ends": after the last field the line is over.
+pub fn read_end(rest: &Rest) -> Result<(), Refusal>
+    ensures { MatchResult result (λ u. nil rest.now.bytes.now ≡ true) (λ e. (nil rest.now.bytes.now ≡ false) × (refusal_number e ≡ 2)) }
+{
+    if rest.is_ended() {
+        Ok(())
+    } else {
+        Err(Refusal::Malformed)
+    }
 }

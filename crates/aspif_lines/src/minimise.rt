@@ -1,20 +1,26 @@
 // `2 p k` and k pairs of literal and weight: minimise at priority p.
-ghost use Rattle.std.specs.Prelude.{◌≡◌, [], ◌+◌, ◌<◌, ◌≤◌, length, drop, pos, nat_abs};
+ghost use Rattle.std.specs.Prelude.{◌≡◌, [], ◌+◌, ◌≤◌, max, length, pos, nat_abs, IfOk};
+ghost use Rattle.asp.specs.Program.{highest};
+ghost use Rattle.asp.specs.Tables.{literals_at};
 ghost use Rattle.aspif_fields.specs.Fields.{pair};
+ghost use Rattle.aspif_fields.specs.SeenFields.{read_as, read_into};
 ghost use Rattle.aspif_lines.specs.Text.{more, minimise_line};
-ghost use Rattle.aspif_lines.specs.Seen.{seen_entries, TopOf, seen_minimise, MinimiseSmall, MinimiseTop, Kept};
+ghost use Rattle.aspif_lines.specs.Seen.{entries_at, minimise_in, Kept};
 
-use super::members::{Listed, higher};
+use super::members::read_end;
 use super::room::{Literals, Priorities, Weights};
-use aspif_fields::field::{MOST_COUNT, Number, Signed, is_ended, read_natural, read_signed, size};
-use aspif_fields::pair::{Pair, read_pair};
+use asp::literal::atom;
+use aspif_fields::field::MOST_COUNT;
+use aspif_fields::pair::Pair;
+use aspif_fields::refusal::Refusal;
+use aspif_fields::token::Rest;
 
 const MOST_PRIORITY: u32 = 1000; // document 01: "p from -1,000 to 1,000 (signed)"
 
-// k entries of priority p, stored from `used` on.
+// k entries of priority p, stored from `used` on. The highest atom so far.
+// Kept: beside `read_members`, since an entry goes to three tables.
 fn read_pairs(
-    s: &[u8],
-    at: usize,
+    rest: &mut Rest,
     p: i32,
     k: usize,
     priorities: &mut [i32],
@@ -22,78 +28,56 @@ fn read_pairs(
     weights: &mut [i32],
     used: usize,
     start: usize,
-) -> Listed
-    requires { (used + k ≤ length priorities.old) × (used + k ≤ length literals.old) × (used + k ≤ length weights.old) × (nat_abs p ≤ 1000) }
-    ensures { (seen_entries s.now priorities.new literals.new weights.new used k result ≡ more (pair p) k [] (drop at s.now)) × TopOf literals.new used k start result × Kept (pos 0) used priorities.old priorities.new × Kept (pos 0) used literals.old literals.new × Kept (pos 0) used weights.old weights.new }
+) -> Result<usize, Refusal>
+    requires room { (used + k ≤ length priorities.old) × (used + k ≤ length literals.old) × (used + k ≤ length weights.old) }
+    requires small { nat_abs p ≤ 1000 }
+    ensures answer { read_into result (entries_at priorities.new literals.new weights.new used k) rest.new.bytes.now ≡ more (pair p) k [] rest.old.bytes.now }
+    ensures top { IfOk result (λ t. t ≡ max start (highest nat_abs (literals_at literals.new used k))) }
+    ensures kept { Kept (pos 0) used priorities.old priorities.new × Kept (pos 0) used literals.old literals.new × Kept (pos 0) used weights.old weights.new }
 {
-    let mut a = at;
     let mut top = start;
-    let mut i: usize = 0;
-    while i < k {
-        let m = read_pair(s, a);
-        let Pair::Paired {
-            literal,
-            weight,
-            next,
-        } = m
-        else {
-            return Listed::Refused { code: m.code() };
-        };
-        let j = used + i;
-        priorities[j] = p;
-        literals[j] = literal;
-        weights[j] = weight;
-        top = higher(top, literal);
-        a = next;
-        i += 1;
+    for i in 0..k {
+        let Pair { literal, weight } = rest.read_pair()?;
+        priorities[used + i] = p;
+        literals[used + i] = literal;
+        weights[used + i] = weight;
+        top = top.max(atom(literal));
     }
-    Listed::Upto { next: a, top: top }
+    Ok(top)
 }
 
-// A minimise line: its entries are in the tables.
-#[derive(Clone, Copy)]
-pub enum MinimiseLine {
-    Minimised {
-        priority: i32,
-        count: usize,
-        top: usize,
-    },
-    Refused {
-        code: u32,
-    },
+// A minimise line: its entries are in the tables. The highest atom so far.
+#[derive(Clone, Copy, PartialEq, Eq, Debug)]
+pub struct MinimiseLine {
+    pub priority: i32,
+    pub count: usize,
+    pub top: usize,
 }
 
+#[tactic(auto, unfolding(crate::specs::Text::minimise_line))]
 pub fn read_minimise(
-    s: &[u8],
-    at: usize,
+    rest: &mut Rest,
     priorities: &mut Priorities,
     literals: &mut Literals,
     weights: &mut Weights,
     used: usize,
-    top: usize,
-) -> MinimiseLine
+    start: usize,
+) -> Result<MinimiseLine, Refusal>
     requires { (used + 1024 ≤ length priorities.old) × (used + 1024 ≤ length literals.old) × (used + 1024 ≤ length weights.old) }
-    ensures { (seen_minimise priorities.new literals.new weights.new used result ≡ minimise_line (drop at s.now)) × MinimiseSmall result × MinimiseTop literals.new used top result × Kept (pos 0) used priorities.old priorities.new × Kept (pos 0) used literals.old literals.new × Kept (pos 0) used weights.old weights.new }
+    ensures answer { read_as (minimise_in priorities.new literals.new weights.new used) result [] ≡ minimise_line rest.old.bytes.now }
+    ensures small { IfOk result (λ m. (nat_abs m.priority ≤ 1000) × (m.count ≤ 1024)) }
+    ensures top { IfOk result (λ m. m.top ≡ max start (highest nat_abs (literals_at literals.new used m.count))) }
+    ensures kept { Kept (pos 0) used priorities.old priorities.new × Kept (pos 0) used literals.old literals.new × Kept (pos 0) used weights.old weights.new }
 {
-    let f = read_signed(s, at, MOST_PRIORITY);
-    let Signed::Whole { value: p, next: a } = f else {
-        return MinimiseLine::Refused { code: f.code() };
-    };
-    let n = read_natural(s, a, 0, MOST_COUNT);
-    let Number::Value { value: k, next: b } = n else {
-        return MinimiseLine::Refused { code: n.code() };
-    };
-    let count = size(k);
-    let l = read_pairs(s, b, p, count, priorities, literals, weights, used, top);
-    let Listed::Upto { next: e, top: t } = l else {
-        return MinimiseLine::Refused { code: l.code() };
-    };
-    if is_ended(s, e) {
-        return MinimiseLine::Minimised {
-            priority: p,
-            count: count,
-            top: t,
-        };
-    }
-    MinimiseLine::Refused { code: 2 }
+    let priority = rest.read_signed(MOST_PRIORITY)?;
+    let count = rest.read_natural(0, MOST_COUNT)?;
+    let top = read_pairs(
+        rest, priority, count, priorities, literals, weights, used, start,
+    )?;
+    read_end(rest)?;
+    Ok(MinimiseLine {
+        priority,
+        count,
+        top,
+    })
 }

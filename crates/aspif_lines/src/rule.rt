@@ -1,76 +1,60 @@
 // `1 h m atoms` and a body: a rule.
-ghost use Rattle.std.specs.Prelude.{◌≡◌, ◌+◌, ◌≤◌, length, drop, pos};
+ghost use Rattle.std.specs.Prelude.{◌≡◌, [], ◌+◌, ◌≤◌, true, length, pos, IfOk};
+ghost use Rattle.aspif_fields.specs.SeenFields.{read_as};
 ghost use Rattle.aspif_lines.specs.Text.{rule_line};
-ghost use Rattle.aspif_lines.specs.Seen.{kind_of, seen_rule, RuleFound, Kept};
+ghost use Rattle.aspif_lines.specs.Seen.{kind_of, is_weighed, is_both_signed, rule_in, RuleGood, rule_row, Kept};
 
-use super::body::{BodyPart, read_body};
-use super::members::{Listed, read_members};
+use super::body::{BodyKind, read_body};
+use super::members::{read_end, read_members};
 use super::room::Pool;
-use aspif_fields::field::is_ended;
-use aspif_fields::opening::{Opens, read_opening};
+use aspif_fields::refusal::Refusal;
+use aspif_fields::token::Rest;
 
 // A row's kind (asp::table).
-fn kind_of(choice: bool, weighted: bool, mixed: bool) -> usize
-    ensures { result ≡ kind_of choice weighted mixed }
+fn kind_of(choice: bool, body: BodyKind) -> usize
+    ensures { result ≡ kind_of choice (is_weighed body) (is_both_signed body) }
 {
-    if weighted {
-        if mixed {
-            return if choice { 5 } else { 4 };
-        }
-        return if choice { 3 } else { 2 };
+    match (choice, body) {
+        (false, BodyKind::Normal) => 0,
+        (true, BodyKind::Normal) => 1,
+        (false, BodyKind::Weighted) => 2,
+        (true, BodyKind::Weighted) => 3,
+        (false, BodyKind::Mixed) => 4,
+        (true, BodyKind::Mixed) => 5,
     }
-    if choice { 1 } else { 0 }
 }
 
-// A rule of a row's kind, its head atoms and then its body in the pool.
-#[derive(Clone, Copy)]
-pub enum RuleLine {
-    Ruled {
-        kind: usize,
-        heads: usize,
-        body: usize,
-        top: usize,
-    },
-    Refused {
-        code: u32,
-    },
+// A rule of a row's kind, its head atoms and then its body in the pool, and the highest atom so far.
+#[derive(Clone, Copy, PartialEq, Eq, Debug)]
+pub struct RuleLine {
+    pub kind: usize,
+    pub heads: usize,
+    pub body: usize,
+    pub top: usize,
 }
 
-pub fn read_rule(s: &[u8], at: usize, pool: &mut Pool, used: usize, top: usize) -> RuleLine
+#[tactic(auto, unfolding(crate::specs::Text::rule_line))]
+pub fn read_rule(
+    rest: &mut Rest,
+    pool: &mut Pool,
+    used: usize,
+    start: usize,
+) -> Result<RuleLine, Refusal>
     requires { used + 3073 ≤ length pool.old }
-    ensures { (seen_rule pool.new used result ≡ rule_line (drop at s.now)) × RuleFound pool.new used top result × Kept (pos 0) used pool.old pool.new }
+    ensures answer { read_as (rule_in pool.new used) result [] ≡ rule_line rest.old.bytes.now }
+    ensures good { IfOk result (λ r. RuleGood pool.new (rule_row r.kind used r.heads r.body) start r.top) }
+    ensures kept { Kept (pos 0) used pool.old pool.new }
 {
-    let o = read_opening(s, at);
-    let Opens::Open {
-        choice,
-        count,
-        next: a,
-    } = o
-    else {
-        return RuleLine::Refused { code: o.code() };
-    };
-    let h = read_members(s, a, true, count, pool, used, top);
-    let Listed::Upto { next: b, top: t } = h else {
-        return RuleLine::Refused { code: h.code() };
-    };
-    let d = read_body(s, b, pool, used + count, t);
-    let BodyPart::Body {
-        weighted,
-        mixed,
-        count: body,
-        next: e,
-        top: u,
-    } = d
-    else {
-        return RuleLine::Refused { code: d.code() };
-    };
-    if is_ended(s, e) {
-        return RuleLine::Ruled {
-            kind: kind_of(choice, weighted, mixed),
-            heads: count,
-            body: body,
-            top: u,
-        };
-    }
-    RuleLine::Refused { code: 2 }
+    let opening = rest.read_opening()?;
+    let heads = opening.count;
+    let highest = read_members(rest, |rest| rest.read_atom(), heads, pool, used, start)?;
+    let body = read_body(rest, pool, used + heads, highest)?;
+    read_end(rest)?;
+    let kind = kind_of(opening.choice, body.kind);
+    Ok(RuleLine {
+        kind,
+        heads,
+        body: body.count,
+        top: body.top,
+    })
 }

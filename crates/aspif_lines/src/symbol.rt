@@ -1,40 +1,19 @@
 // `4 m s k literals`: a symbol.
-ghost use Rattle.std.specs.Prelude.{◌≡◌, [], ◌+◌, ◌<◌, ◌≤◌, length, drop, pos};
+ghost use Rattle.std.specs.Prelude.{◌≡◌, [], ◌+◌, ◌<◌, ◌≤◌, max, length, pos, nat_abs, IfOk};
+ghost use Rattle.asp.specs.Program.{highest};
+ghost use Rattle.asp.specs.Tables.{literals_at};
 ghost use Rattle.aspif_fields.specs.Fields.{within, field};
+ghost use Rattle.aspif_fields.specs.SeenFields.{read_as, read_into};
 ghost use Rattle.aspif_lines.specs.Text.{more, name_byte, symbol_line};
-ghost use Rattle.aspif_lines.specs.Seen.{seen_name, NameIn, seen_symbol, SymbolSmall, SymbolTop, Kept};
+ghost use Rattle.aspif_lines.specs.Seen.{bytes_at, symbol_in, SymbolSmall, Kept};
 
-use super::members::{Listed, read_members};
+use super::members::{read_end, read_members};
 use super::room::Conditions;
-use aspif_fields::field::{MOST_COUNT, Number, is_ended, read_natural, size};
-use aspif_fields::token::byte_at;
+use aspif_fields::field::MOST_COUNT;
+use aspif_fields::refusal::Refusal;
+use aspif_fields::token::Rest;
 
-const MOST_NAME: u32 = 64; // document 01: "a symbol's m 1 to 64"
-
-// Where a name ends. A byte outside 32 to 126, or none, is refusal 2.
-#[derive(Clone, Copy)]
-pub enum Name {
-    Until { next: usize },
-    Malformed,
-}
-
-// The m bytes of a name.
-fn name_bytes(s: &[u8], at: usize, m: usize) -> Name
-    requires { at ≤ length s.now }
-    ensures { (seen_name s.now at m result ≡ more name_byte m [] (drop at s.now)) × NameIn s.now at m result }
-{
-    let mut i: usize = 0;
-    let mut p = at;
-    while i < m {
-        if is_name(byte_at(s, p)) {
-            p += 1;
-            i += 1;
-        } else {
-            return Name::Malformed;
-        }
-    }
-    Name::Until { next: p }
-}
+const MOST_NAME: usize = 64; // document 01: "a symbol's m 1 to 64"
 
 fn is_name(b: u8) -> bool
     ensures { result ≡ within 32 126 b }
@@ -42,65 +21,71 @@ fn is_name(b: u8) -> bool
     32 <= b && b <= 126
 }
 
-// A space, and a name.
-fn read_name(s: &[u8], at: usize, m: usize) -> Name
-    ensures { (seen_name s.now (at + 1) m result ≡ field (more name_byte m []) (drop at s.now)) × NameIn s.now (at + 1) m result }
+// The m bytes of a name. A byte outside 32 to 126, or none, is refusal 2.
+fn read_bytes(rest: &mut Rest, m: usize) -> Result<(), Refusal>
+    ensures answer { read_into result (bytes_at rest.old.bytes.now 0 m) rest.new.bytes.now ≡ more name_byte m [] rest.old.bytes.now }
+    ensures inside { IfOk result (λ u. m + length rest.new.bytes.now ≡ length rest.old.bytes.now) }
 {
-    if byte_at(s, at) != b' ' {
-        return Name::Malformed;
+    for i in 0..m {
+        if !is_name(rest.peek()) {
+            return Err(Refusal::Malformed);
+        }
+        rest.skip(1);
     }
-    name_bytes(s, at + 1, m)
+    Ok(())
 }
 
-// A symbol: its name is in the line, its condition in the pool.
-#[derive(Clone, Copy)]
-pub enum SymbolLine {
-    Named {
-        name: usize,
-        length: usize,
-        shown: usize,
-        top: usize,
-    },
-    Refused {
-        code: u32,
-    },
+// A space, and a name.
+fn read_name(rest: &mut Rest, m: usize) -> Result<(), Refusal>
+    ensures answer { read_into result (bytes_at rest.old.bytes.now 1 m) rest.new.bytes.now ≡ field (more name_byte m []) rest.old.bytes.now }
+    ensures inside { IfOk result (λ u. 1 + m + length rest.new.bytes.now ≡ length rest.old.bytes.now) }
+{
+    let Some(()) = rest.read_space() else {
+        return Err(Refusal::Malformed);
+    };
+    read_bytes(rest, m)
 }
 
+// A symbol: its name is in the line, `name` bytes on, its condition in the pool. The highest atom so far.
+#[derive(Clone, Copy, PartialEq, Eq, Debug)]
+pub struct SymbolLine {
+    pub name: usize,
+    pub length: usize,
+    pub shown: usize,
+    pub top: usize,
+}
+
+#[tactic(auto, unfolding(crate::specs::Text::symbol_line))]
 pub fn read_symbol(
-    s: &[u8],
-    at: usize,
+    rest: &mut Rest,
     conditions: &mut Conditions,
     used: usize,
-    top: usize,
-) -> SymbolLine
+    start: usize,
+) -> Result<SymbolLine, Refusal>
     requires { used + 1024 ≤ length conditions.old }
-    ensures { (seen_symbol s.now conditions.new used result ≡ symbol_line (drop at s.now)) × SymbolSmall (length s.now) result × SymbolTop conditions.new used top result × Kept (pos 0) used conditions.old conditions.new }
+    ensures answer { read_as (symbol_in rest.old.bytes.now conditions.new used) result [] ≡ symbol_line rest.old.bytes.now }
+    ensures small { IfOk result (SymbolSmall (length rest.old.bytes.now)) }
+    ensures top { IfOk result (λ s. s.top ≡ max start (highest nat_abs (literals_at conditions.new used s.shown))) }
+    ensures kept { Kept (pos 0) used conditions.old conditions.new }
 {
-    let f = read_natural(s, at, 1, MOST_NAME);
-    let Number::Value { value: m, next: a } = f else {
-        return SymbolLine::Refused { code: f.code() };
-    };
-    let length = size(m);
-    let Name::Until { next: b } = read_name(s, a, length) else {
-        return SymbolLine::Refused { code: 2 };
-    };
-    let n = read_natural(s, b, 0, MOST_COUNT);
-    let Number::Value { value: k, next: c } = n else {
-        return SymbolLine::Refused { code: n.code() };
-    };
-    let shown = size(k);
-    let l = read_members(s, c, false, shown, conditions, used, top);
-    let Listed::Upto { next: e, top: t } = l else {
-        return SymbolLine::Refused { code: l.code() };
-    };
-    if is_ended(s, e) {
-        let name = a + 1;
-        return SymbolLine::Named {
-            name: name,
-            length: length,
-            shown: shown,
-            top: t,
-        };
-    }
-    SymbolLine::Refused { code: 2 }
+    let line = rest.bytes.len();
+    let length = rest.read_natural(1, MOST_NAME)?;
+    let name = line - rest.bytes.len() + 1;
+    read_name(rest, length)?;
+    let shown = rest.read_natural(0, MOST_COUNT)?;
+    let top = read_members(
+        rest,
+        |rest| rest.read_literal(),
+        shown,
+        conditions,
+        used,
+        start,
+    )?;
+    read_end(rest)?;
+    Ok(SymbolLine {
+        name,
+        length,
+        shown,
+        top,
+    })
 }

@@ -1,23 +1,22 @@
 -- What a line leads to, by its kind and what its statement adds to the tables. Assumes nothing.
-use mathlib.Core.Path.{◌≡◌, refl, sym, ◌∙◌}
-use mathlib.Core.Bool.{Bool, true, false}
+use mathlib.Core.Path.{◌≡◌, sym, ◌∙◌, subst}
+use mathlib.Core.Bool.{true, false}
 use mathlib.Core.List.{List, [], ◌∷◌, ◌++◌}
 use Prim.Native.Nat.{ℕ, ◌+◌, ◌≤◌, max}
 use native.Mathlib.Omega.{arith}
-use lib.Dec.{eqb}
 use lib.IntN.{ℤ, nat_abs}
 use lib.ListN.{length, get_or}
-use borrow.Author.Tests.{ne_eqb, eqb-true, eqb-false}
-use Rattle.asp.specs.Sets.{pick}
+use borrow.Author.Tests.{ne_eqb}
 use Rattle.asp.specs.Program.{Rule, Entry, Symbol, highest, rule_atoms}
 use Rattle.asp.specs.Tables.{literals_at, row_at, symbol_at, symbols_of, program_of}
 use Rattle.aspif_fields.specs.Fields.{Read, got, bad, bind, nil, number}
 use Rattle.aspif_lines.specs.Text.{rule_line, minimise_line, symbol_line, Minimise, rule, minimise, symbol, comment, final, of_kind, statement, line, led, stepped_line, stop}
 use Rattle.aspif_lines.specs.Seen.{bytes_at, Kept}
-use Rattle.aspif_tables.specs.Lists.{SymbolsSound, RuleAdded, AddedRule, MinimiseAdded, AddedMinimise, SymbolAdded, AddedSymbol, other_turn, final_counts, Lists, lists, Sized, tables, reading_of, SoundLists, seen_turn, TurnAfter}
+use Rattle.aspif_tables.specs.Lists.{SymbolsSound, RuleAdded, MinimiseAdded, SymbolAdded, final_counts, Lists, lists, Sized, tables, reading_of, SoundLists, turn_of}
 use Rattle.aspif_tables.specs.declared.table.Counts.{Counts}
-use Rattle.aspif_tables.specs.declared.add.LineTurn.{LineTurn}
-use Rattle.aspif_tables.specs.declared.add.LineTurn.TheVariants as turn
+use Rattle.aspif_tables.specs.declared.line.LineTurn.{LineTurn}
+use Rattle.aspif_tables.specs.declared.line.LineTurn.TheVariants.{Last, Goes}
+use Rattle.std.proofs.Common.{Ok}
 use Rattle.aspif_lines.proofs.Spans.{span_same, highest_snoc}
 use Rattle.aspif_tables.proofs.Levels.{descending_insert}
 
@@ -71,8 +70,11 @@ module _ (s : List ℕ) (t : Lists) (n : Counts) (text' : List ℕ) (end : ℕ) 
     unfolding stepped_line statement
     kind_led e = rw (num, e)
 
-    abbrev Leads : Lists → LineTurn → Type 0
-    Leads u a = (seen_turn u a ≡ stepped_line s (reading_of t n)) × TurnAfter u (n.text + length s + 1) a
+    abbrev Leads : Lists → Counts → LineTurn → Type 0
+    Leads u m a = (turn_of u m (Ok a) ≡ stepped_line s (reading_of t n)) × (SoundLists u m × (m.text ≤ n.text + length s + 1))
+
+    pub leads_at : {u v : Lists} (m : Counts) (a : LineTurn) → u ≡ v → Leads v m a → Leads u m a
+    leads_at {u} {v} m a e h = subst (λ (w : Lists). Leads w m a) (sym e) h
 
     -- ---- rules
     module _ (pool' : List ℤ) (rules' : List ℕ) (one : kind ≡ 1) where
@@ -83,7 +85,7 @@ module _ (s : List ℕ) (t : Lists) (n : Counts) (text' : List ℕ) (end : ℕ) 
       unfolding of_kind
       rule_kind x e = rw (one, e)
 
-      rule_goes : (m : Counts) → RuleAdded t.pool t.rules pool' rules' n end r m → Leads ruled (turn.Goes m)
+      pub rule_goes : (m : Counts) → RuleAdded t.pool t.rules pool' rules' n end r m → Leads ruled m Goes
       rule_goes m a =
           rw a.counts (
             rw (kind_led (rule_kind (got a.read []) a.line), a.grown, same, appended),
@@ -99,10 +101,8 @@ module _ (s : List ℕ) (t : Lists) (n : Counts) (text' : List ℕ) (end : ℕ) 
             ),
           )
 
-      pub rule_leads : (a : LineTurn) → AddedRule t.pool t.rules pool' rules' n end r a → Leads ruled a
-      rule_leads (turn.Refused c) e = (sym (kind_led (rule_kind (bad c) e)), tt)
-      rule_leads (turn.Last m) e = absurd e
-      rule_leads (turn.Goes m) e = rule_goes m e
+      pub rule_stops : (c : ℕ) → rule_line r ≡ bad c → stop c ≡ stepped_line s (reading_of t n)
+      rule_stops c e = sym (kind_led (rule_kind (bad c) e))
 
     -- ---- minimise lines
     module _ (ps' ls' ws' levels' : List ℤ) (two : kind ≡ 2) where
@@ -113,7 +113,7 @@ module _ (s : List ℕ) (t : Lists) (n : Counts) (text' : List ℕ) (end : ℕ) 
       unfolding of_kind
       minimise_kind x e = rw (two, e)
 
-      minimise_goes : (m : Counts) → MinimiseAdded t.priorities t.literals t.weights t.levels ps' ls' ws' levels' n end r m → Leads minimised (turn.Goes m)
+      pub minimise_goes : (m : Counts) → MinimiseAdded t.priorities t.literals t.weights t.levels ps' ls' ws' levels' n end r m → Leads minimised m Goes
       minimise_goes m a =
           rw a.counts (
             rw (kind_led (minimise_kind (got a.read []) a.line), a.grown, a.levelled, same, appended),
@@ -129,10 +129,8 @@ module _ (s : List ℕ) (t : Lists) (n : Counts) (text' : List ℕ) (end : ℕ) 
             ),
           )
 
-      pub minimise_leads : (a : LineTurn) → AddedMinimise t.priorities t.literals t.weights t.levels ps' ls' ws' levels' n end r a → Leads minimised a
-      minimise_leads (turn.Refused c) e = (sym (kind_led (minimise_kind (bad c) e)), tt)
-      minimise_leads (turn.Last m) e = absurd e
-      minimise_leads (turn.Goes m) e = minimise_goes m e
+      pub minimise_stops : (c : ℕ) → minimise_line r ≡ bad c → stop c ≡ stepped_line s (reading_of t n)
+      minimise_stops c e = sym (kind_led (minimise_kind (bad c) e))
 
     -- ---- symbols
     module _ (conditions' : List ℤ) (symbols' : List ℕ) (four : kind ≡ 4) where
@@ -143,7 +141,7 @@ module _ (s : List ℕ) (t : Lists) (n : Counts) (text' : List ℕ) (end : ℕ) 
       unfolding of_kind
       symbol_kind x e = rw (four, e)
 
-      symbol_goes : (m : Counts) → SymbolAdded text' t.conditions t.symbols conditions' symbols' n end r m → Leads symbolled (turn.Goes m)
+      pub symbol_goes : (m : Counts) → SymbolAdded text' t.conditions t.symbols conditions' symbols' n end r m → Leads symbolled m Goes
       symbol_goes m a =
           let grown = rw same at a.grown in
           rw a.counts (
@@ -160,36 +158,28 @@ module _ (s : List ℕ) (t : Lists) (n : Counts) (text' : List ℕ) (end : ℕ) 
             ),
           )
 
-      pub symbol_leads : (a : LineTurn) → AddedSymbol text' t.conditions t.symbols conditions' symbols' n end r a → Leads symbolled a
-      symbol_leads (turn.Refused c) e = (sym (kind_led (symbol_kind (bad c) e)), tt)
-      symbol_leads (turn.Last m) e = absurd e
-      symbol_leads (turn.Goes m) e = symbol_goes m e
+      pub symbol_stops : (c : ℕ) → symbol_line r ≡ bad c → stop c ≡ stepped_line s (reading_of t n)
+      symbol_stops c e = sym (kind_led (symbol_kind (bad c) e))
 
     -- ---- the other kinds
-    module _ (no1 : kind ≡ 1 → ⊥) (no2 : kind ≡ 2 → ⊥) (no4 : kind ≡ 4 → ⊥) where
-      put_sound : SoundLists put (final_counts n end)
-      put_sound = record { sized = sized; rules = sound.rules; symbols = stay; levels = sound.levels; atoms = rw same sound.atoms }
+    put_sound : SoundLists put (final_counts n end)
+    put_sound = record { sized = sized; rules = sound.rules; symbols = stay; levels = sound.levels; atoms = rw same sound.atoms }
 
-      kept_sound : SoundLists put n
-      kept_sound = record { sized = sized; rules = sound.rules; symbols = symbol_ready; levels = sound.levels; atoms = rw same sound.atoms }
+    kept_sound : SoundLists put n
+    kept_sound = record { sized = sized; rules = sound.rules; symbols = symbol_ready; levels = sound.levels; atoms = rw same sound.atoms }
 
-      final_leads : (b : Bool) → nil r ≡ b → kind ≡ 0 → Leads put (pick b (turn.Last (final_counts n end)) (turn.Refused 2))
-      unfolding of_kind
-      final_leads true e z = (rw (kind_led {x = got final []} (rw (z, e)), same, appended), (put_sound, omega arith))
-      final_leads false e z = (sym (kind_led {x = bad 2} (rw (z, e))), tt)
+    pub final_leads : kind ≡ 0 → nil r ≡ true → Leads put (final_counts n end) Last
+    unfolding of_kind
+    final_leads z e = (rw (kind_led {x = got final []} (rw (z, e)), same, appended), (put_sound, omega arith))
 
-      comment_leads : kind ≡ 10 → Leads put (turn.Goes n)
-      unfolding of_kind
-      comment_leads z = (rw (kind_led {x = got comment []} (rw z), same, bytes_kept t.text text' n.text kept), (kept_sound, omega arith))
+    pub final_stops : kind ≡ 0 → nil r ≡ false → stop 2 ≡ stepped_line s (reading_of t n)
+    unfolding of_kind
+    final_stops z e = sym (kind_led {x = bad 2} (rw (z, e)))
 
-      unread_leads : (kind ≡ 0 → ⊥) → (kind ≡ 10 → ⊥) → Leads put (turn.Refused 3)
-      unfolding of_kind
-      unread_leads f g = (sym (kind_led {x = bad 3} (rw (ne_eqb kind 0 f, ne_eqb kind 1 no1, ne_eqb kind 2 no2, ne_eqb kind 4 no4, ne_eqb kind 10 g))), tt)
+    pub comment_leads : kind ≡ 10 → Leads put n Goes
+    unfolding of_kind
+    comment_leads z = (rw (kind_led {x = got comment []} (rw z), same, bytes_kept t.text text' n.text kept), (kept_sound, omega arith))
 
-      pub other_leads : (a : LineTurn) → a ≡ other_turn kind r n end → Leads put a
-      other_leads a e = rw e (go (eqb kind 0) (eqb kind 10) refl refl)
-        where
-          go : (x y : Bool) → eqb kind 0 ≡ x → eqb kind 10 ≡ y → Leads put (pick x (pick (nil r) (turn.Last (final_counts n end)) (turn.Refused 2)) (pick y (turn.Goes n) (turn.Refused 3)))
-          go true y p q = final_leads (nil r) refl (eqb-true kind 0 p)
-          go false true p q = comment_leads (eqb-true kind 10 q)
-          go false false p q = unread_leads (eqb-false kind 0 p) (eqb-false kind 10 q)
+    pub unread_stops : (kind ≡ 0 → ⊥) → (kind ≡ 1 → ⊥) → (kind ≡ 2 → ⊥) → (kind ≡ 4 → ⊥) → (kind ≡ 10 → ⊥) → stop 3 ≡ stepped_line s (reading_of t n)
+    unfolding of_kind
+    unread_stops no0 no1 no2 no4 no10 = sym (kind_led {x = bad 3} (rw (ne_eqb kind 0 no0, ne_eqb kind 1 no1, ne_eqb kind 2 no2, ne_eqb kind 4 no4, ne_eqb kind 10 no10)))

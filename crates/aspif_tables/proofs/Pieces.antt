@@ -1,33 +1,65 @@
 -- A text's pieces, and a line put after a text. Assumes nothing.
-use mathlib.Core.Path.{◌≡◌, refl, sym, ap, ◌∙◌}
+use mathlib.Core.Bool.{Bool, true, false, not, cond}
+use mathlib.Core.Path.{◌≡◌, refl, ◌∙◌}
 use mathlib.Core.List.{List, [], ◌∷◌, ◌++◌}
-use Prim.Native.Nat.{ℕ, zero, suc, ◌+◌, ◌-◌, ◌<◌, ◌≤◌}
+use Prim.Native.Nat.{ℕ, zero, suc, ◌+◌, ◌<◌, ◌≤◌}
 use native.Mathlib.Omega.{arith}
-use mathlib.Core.Logic.{⊎_elim}
-use Rattle.aspif_fields.proofs.Tokens.{lt_or_le}
-use lib.ListN.{length, get_or, take, drop, set, length-drop}
-use lib.Seq.{take-suc, take-length, get_or-set_same, get_or-set_other, get_or-drop, drop-drop}
-use borrow.Author.Tests.{eq-eqb, ne_eqb}
-use Rattle.aspif_lines.specs.Text.{pieces, line}
+use lib.ListN.{length, get_or, take, drop, set, drop_of_length-le}
+use lib.Dec.{eqb, ltb}
+use borrow.Rule.Slice.PartMut.{put_mid}
+use native.Mathlib.Numerals.{add-one}
+use Rattle.std.proofs.Common.{Some, None, rules}
+use Rattle.std.proofs.lemmas.List.{places, length-take, get_or-take, get_or_append_left, get_or-append-add}
+use Rattle.std.specs.List.{position, position_or_len, prefix_len}
+use Rattle.asp.specs.Sets.{pick}
+use lib.Seq.{take-suc, take-length, drop-cons, get_or-set_same, get_or-set_other}
+use borrow.Author.Tests.{ltb-true, ltb-false}
+use Rattle.aspif_lines.specs.Text.{pieces, longer, line}
 use Rattle.asp.specs.Tables.{span}
 use Rattle.aspif_lines.specs.Seen.{follow, bytes_at, Kept}
 use Rattle.aspif_lines.proofs.Spans.{span_same, span_shift, span_append, span_snoc}
 
-pieces_run : (k : ℕ) (s : List ℕ) → ((j : ℕ) → j < k → get_or s j 0 ≡ 10 → ⊥) → k ≤ length s → (k < length s → get_or s k 0 ≡ 10) → pieces s ≡ take k s ∷ follow (drop k s)
-unfolding pieces
-pieces_run zero [] never le e = refl
-pieces_run zero (b ∷ s) never le e = rw (eq-eqb b 10 (e (omega arith)))
-pieces_run (suc k) [] never le e = absurd (omega arith)
-pieces_run (suc k) (b ∷ s) never le e = rw (ne_eqb b 10 (never 0 (omega arith)), pieces_run k s (λ j l. never (suc j) (omega arith)) (omega arith) (λ l. e (omega arith)))
+abbrev is_end : ℕ → Bool
+is_end b = eqb b 10
 
--- the first line of what stands at `at`, which ends at i
-pub pieces_at : (s : List ℕ) (at i : ℕ) → at ≤ i → i ≤ length s → ((j : ℕ) → at ≤ j → j < i → get_or s j 0 ≡ 10 → ⊥) → (i < length s → get_or s i 0 ≡ 10)
-    → pieces (drop at s) ≡ take (i - at) (drop at s) ∷ follow (drop i s)
-pieces_at s at i h k never e =
-    let l = length-drop at s in
-    let a : at + (i - at) ≡ i = omega arith in
-    let d : drop (i - at) (drop at s) ≡ drop i s = drop-drop (i - at) at s ∙ ap (λ (n : ℕ). drop n s) a in
-    rw (← d) (pieces_run (i - at) (drop at s) (λ j m z. never (at + j) (omega arith) (omega arith) (sym (get_or-drop at s j 0) ∙ z)) (omega arith) (λ m. get_or-drop at s (i - at) 0 ∙ ap (λ (n : ℕ). get_or s n 0) a ∙ e (omega arith)))
+-- the first piece ends at the first byte 10
+pieces_first : (s : List ℕ) → pieces s ≡ take (position_or_len is_end s) s ∷ follow (drop (position_or_len is_end s) s)
+unfolding pieces
+pieces_first [] = refl
+pieces_first (b ∷ s) = go (eqb b 10) (position_or_len is_end s) (pieces_first s)
+  where
+    go : (t : Bool) (k : ℕ) → pieces s ≡ take k s ∷ follow (drop k s) → pick t ([] ∷ pieces s) (longer b (pieces s)) ≡ take (cond (not t) (1 + k) 0) (b ∷ s) ∷ follow (drop (cond (not t) (1 + k) 0) (b ∷ s))
+    go true k e = refl
+    go false k e = let f : 1 + k ≡ suc k = omega arith in rw (f, e)
+
+prefix_inside : (p : ℕ → Bool) (s : List ℕ) → prefix_len p s ≤ length s
+prefix_inside p [] = omega arith
+prefix_inside p (b ∷ s) = go (p b) (prefix_len p s) (prefix_inside p s)
+  where
+    go : (t : Bool) (k : ℕ) → k ≤ length s → cond t (1 + k) 0 ≤ suc (length s)
+    go true k h = omega arith
+    go false k h = omega arith
+
+pub split_some : (s : List ℕ) (i : ℕ) → Some i ≡ position is_end s → pieces s ≡ take i s ∷ pieces (drop (i + 1) s)
+split_some s i e = go (ltb (position_or_len is_end s) (length s)) refl e
+  where
+    go : (t : Bool) → ltb (position_or_len is_end s) (length s) ≡ t → Some i ≡ cond t (Some (position_or_len is_end s)) None → pieces s ≡ take i s ∷ pieces (drop (i + 1) s)
+    go true q f =
+        let k : i ≡ position_or_len is_end s = cc in
+        let l : i < length s = rw k (ltb-true (position_or_len is_end s) (length s) q) in
+        let e = rw (← k) at (pieces_first s) in
+        let d = drop-cons s i 0 l in
+        rw (d, ← add-one i) at e
+    go false q f = cc
+
+pub split_none : (s : List ℕ) → None ≡ position is_end s → pieces s ≡ s ∷ []
+split_none s e = go (ltb (position_or_len is_end s) (length s)) refl e
+  where
+    go : (t : Bool) → ltb (position_or_len is_end s) (length s) ≡ t → None ≡ cond t (Some (position_or_len is_end s)) None → pieces s ≡ s ∷ []
+    go true q f = cc
+    go false q f =
+        let k : position_or_len is_end s ≡ length s = omega (arith, ltb-false (position_or_len is_end s) (length s) q, prefix_inside (λ b. not (is_end b)) s) in
+        pieces_first s ∙ rw (k, take-length s, drop_of_length-le s {i = length s} (omega arith))
 
 bytes_at_none : (s : List ℕ) → bytes_at s 0 0 ≡ []
 unfolding span
@@ -59,10 +91,15 @@ module _ (t₀ t s : List ℕ) (used : ℕ) (kept : Kept 0 used t₀ t) (copied 
       span_shift (λ (j : ℕ). get_or (set t (used + length s) 10) j 0) (λ (j : ℕ). get_or s j 0) (used + a) a m
       (λ j l. let e : used + a + j ≡ used + (a + j) = omega arith in rw e (get_or-set_other t (used + length s) (used + (a + j)) 10 0 (omega arith) ∙ copied (a + j) (omega arith)))
 
-pub passed : (s : List ℕ) (at i : ℕ) → ((j : ℕ) → at ≤ j → j < i → get_or s j 0 ≡ 10 → ⊥) → (get_or s i 0 ≡ 10 → ⊥) → (j : ℕ) → at ≤ j → j < i + 1 → get_or s j 0 ≡ 10 → ⊥
-passed s at i below here j l m z = ⊎_elim (λ k. below j l k z) (λ g. here (let e : j ≡ i = omega arith in rw e at z)) (lt_or_le j i)
+-- the text with the line s in it, from `used` on
+module _ (t s : List ℕ) (used n : ℕ) (long : n ≡ length s) (room : used + length s < length t) where
+  pub put_long : length (put_mid used n t s) ≡ length t
+  put_long = rw long (search (rules, places))
 
-pub copied_more : (t s : List ℕ) (used i : ℕ) → used + i < length t → ((j : ℕ) → j < i → get_or t (used + j) 0 ≡ get_or s j 0) → (j : ℕ) → j < i + 1 → get_or (set t (used + i) (get_or s i 0)) (used + j) 0 ≡ get_or s j 0
-copied_more t s used i h below j m =
-    ⊎_elim (λ k. get_or-set_other t (used + i) (used + j) (get_or s i 0) 0 (omega arith) ∙ below j k)
-    (λ g. let e : j ≡ i = omega arith in rw e (get_or-set_same t (used + i) (get_or s i 0) 0 h)) (lt_or_le j i)
+  pub put_kept : Kept 0 used t (put_mid used n t s)
+  put_kept = record { same = λ j l. get_or_append_left (take used t) (s ++ drop n (drop used t)) 0 j (omega (arith, length-take used t)) ∙ get_or-take used t j 0 l; long = put_long }
+
+  pub put_copied : (j : ℕ) → j < length s → get_or (put_mid used n t s) (used + j) 0 ≡ get_or s j 0
+  put_copied j l =
+      let m : length (take used t) ≡ used = omega (arith, length-take used t) in
+      rw m at (get_or-append-add (take used t) (s ++ drop n (drop used t)) j 0) ∙ get_or_append_left s (drop n (drop used t)) 0 j l

@@ -1,16 +1,20 @@
 -- The tables of a program while its lines are read, and what the code's answers about them mean. Assumes nothing: these are definitions.
-use Rattle.std.specs.Prelude.{◌≡◌, true, false, not, List, [], ◌∷◌, ◌++◌, ℕ, ◌+◌, ◌≤◌, ◌<◌, max, eqb, ℤ, nat_abs, length}
+use Rattle.std.specs.Prelude.{◌≡◌, true, false, not, List, [], ◌∷◌, ◌++◌, ℕ, ◌+◌, ◌≤◌, ◌<◌, max, ℤ, nat_abs, length, Option, Some, None, Result, Ok, Err, IfOk}
+use Rattle.std.specs.Borrow.{Bor}
 use Rattle.std.specs.Int.Signed.{lt_z}
 use Rattle.asp.specs.Sets.{pick}
 use Rattle.asp.specs.Literal.{one_signed}
 use Rattle.asp.specs.Program.{Rule, Entry, Symbol, highest, rule_atoms, atoms}
 use Rattle.asp.specs.Tables.{literals_at, is_choice, is_weighted, is_mixed, Row, row_at, rules_of, entries_of, symbols_of, Tables, program_of}
-use Rattle.aspif_fields.specs.Fields.{got, bad, nil}
-use Rattle.aspif_lines.specs.Text.{rule_line, Minimise, minimise_line, symbol_line, Reading, insert, sum, rule_size, condition_size, name_size, Step, stop, last, goes}
+use Rattle.aspif_fields.specs.Fields.{got, bad}
+use Rattle.aspif_fields.specs.Refusals.{refusal_number}
+use Rattle.aspif_fields.specs.declared.refusal.Refusal.{Refusal}
+use Rattle.aspif_lines.specs.Text.{rule_line, Minimise, minimise_line, symbol_line, pieces, Reading, insert, sum, rule_size, condition_size, name_size, Step, stop, last, goes}
 use Rattle.aspif_lines.specs.Seen.{bytes_at}
 use Rattle.aspif_tables.specs.declared.table.Counts.{Counts}
-use Rattle.aspif_tables.specs.declared.add.LineTurn.{LineTurn}
-use Rattle.aspif_tables.specs.declared.add.LineTurn.TheVariants as turn
+use Rattle.aspif_tables.specs.declared.table.Stored.{Stored}
+use Rattle.aspif_tables.specs.declared.line.LineTurn.{LineTurn}
+use Rattle.aspif_tables.specs.declared.line.LineTurn.TheVariants.{Last, Goes}
 
 -- ---- the limits, by the counts
 
@@ -73,10 +77,9 @@ pub record RuleAdded (pool : List ℤ) (rules : List ℕ) (pool' : List ℤ) (ru
   pub long_pool : length pool' ≡ length pool
   pub long_rules : length rules' ≡ length rules
 
-abbrev pub AddedRule : List ℤ → List ℕ → List ℤ → List ℕ → Counts → ℕ → List ℕ → LineTurn → Type 0
-AddedRule pool rules pool' rules' n end l (turn.Refused c) = rule_line l ≡ bad c
-AddedRule pool rules pool' rules' n end l (turn.Last m) = ⊥
-AddedRule pool rules pool' rules' n end l (turn.Goes m) = RuleAdded pool rules pool' rules' n end l m
+abbrev pub AddedRule : Stored → Stored → ℕ → List ℕ → Result (Unit {0}) Refusal → Type 0
+AddedRule p q end l (Ok u) = RuleAdded p.pool p.rules q.pool q.rules p.counts end l q.counts × (q ≡ record p { pool = q.pool; rules = q.rules; counts = q.counts })
+AddedRule p q end l (Err e) = rule_line l ≡ bad (refusal_number e)
 
 abbrev pub minimise_counts : Counts → ℕ → ℕ → ℕ → ℕ → Counts
 minimise_counts n entries levels top end =
@@ -94,10 +97,11 @@ pub record MinimiseAdded (ps ls ws levels ps' ls' ws' levels' : List ℤ) (n : C
   pub long_weights : length ws' ≡ length ws
   pub long_levels : length levels' ≡ length levels
 
-abbrev pub AddedMinimise : List ℤ → List ℤ → List ℤ → List ℤ → List ℤ → List ℤ → List ℤ → List ℤ → Counts → ℕ → List ℕ → LineTurn → Type 0
-AddedMinimise ps ls ws levels ps' ls' ws' levels' n end l (turn.Refused c) = minimise_line l ≡ bad c
-AddedMinimise ps ls ws levels ps' ls' ws' levels' n end l (turn.Last m) = ⊥
-AddedMinimise ps ls ws levels ps' ls' ws' levels' n end l (turn.Goes m) = MinimiseAdded ps ls ws levels ps' ls' ws' levels' n end l m
+abbrev pub AddedMinimise : Stored → Stored → ℕ → List ℕ → Result (Unit {0}) Refusal → Type 0
+AddedMinimise p q end l (Ok u) =
+    MinimiseAdded p.priorities p.literals p.weights p.levels q.priorities q.literals q.weights q.levels p.counts end l q.counts
+    × (q ≡ record p { priorities = q.priorities; literals = q.literals; weights = q.weights; levels = q.levels; counts = q.counts })
+AddedMinimise p q end l (Err e) = minimise_line l ≡ bad (refusal_number e)
 
 abbrev pub symbol_counts : Counts → ℕ → ℕ → ℕ → ℕ → Counts
 symbol_counts n conditions names top end =
@@ -113,18 +117,15 @@ pub record SymbolAdded (text : List ℕ) (conditions : List ℤ) (symbols : List
   pub long_conditions : length conditions' ≡ length conditions
   pub long_symbols : length symbols' ≡ length symbols
 
-abbrev pub AddedSymbol : List ℕ → List ℤ → List ℕ → List ℤ → List ℕ → Counts → ℕ → List ℕ → LineTurn → Type 0
-AddedSymbol text conditions symbols conditions' symbols' n end l (turn.Refused c) = symbol_line l ≡ bad c
-AddedSymbol text conditions symbols conditions' symbols' n end l (turn.Last m) = ⊥
-AddedSymbol text conditions symbols conditions' symbols' n end l (turn.Goes m) = SymbolAdded text conditions symbols conditions' symbols' n end l m
+abbrev pub AddedSymbol : Stored → Stored → ℕ → List ℕ → Result (Unit {0}) Refusal → Type 0
+AddedSymbol p q end l (Ok u) =
+    SymbolAdded p.text p.conditions p.symbols q.conditions q.symbols p.counts end l q.counts
+    × (q ≡ record p { conditions = q.conditions; symbols = q.symbols; counts = q.counts })
+AddedSymbol p q end l (Err e) = symbol_line l ≡ bad (refusal_number e)
 
 abbrev pub final_counts : Counts → ℕ → Counts
 final_counts n end =
     record { rules = n.rules; used = n.used; filled = n.filled; entries = n.entries; levels = n.levels; symbols = n.symbols; conditions = n.conditions; names = n.names; text = end; atoms = n.atoms }
-
--- the `0` line, a comment, or a kind that is not read
-abbrev pub other_turn : ℕ → List ℕ → Counts → ℕ → LineTurn
-other_turn kind l n end = pick (eqb kind 0) (pick (nil l) (turn.Last (final_counts n end)) (turn.Refused 2)) (pick (eqb kind 10) (turn.Goes n) (turn.Refused 3))
 
 -- ---- all tables
 
@@ -184,14 +185,41 @@ pub record SoundLists (t : Lists) (n : Counts) : Type 0 where
   pub levels : Descending (literals_at t.levels 0 n.levels)
   pub atoms : n.atoms ≡ atoms (program_of (tables t n))
 
+-- ---- the tables as the code holds them
+
+-- nothing but so many bytes of text
+abbrev pub no_counts : ℕ → Counts
+no_counts used = record { rules = 0; used = 0; filled = 0; entries = 0; levels = 0; symbols = 0; conditions = 0; names = 0; text = used; atoms = 0 }
+
+abbrev pub lists_of : Stored → Lists
+lists_of p = lists p.text p.pool p.rules p.priorities p.literals p.weights p.levels p.conditions p.symbols
+
+abbrev pub reading_in : Stored → Reading
+reading_in p = reading_of (lists_of p) p.counts
+
+abbrev pub Sound : Stored → Type 0
+Sound p = SoundLists (lists_of p) p.counts
+
 -- ---- one line
 
-abbrev pub seen_turn : Lists → LineTurn → Step
-seen_turn t (turn.Refused c) = stop c
-seen_turn t (turn.Last n) = last (reading_of t n)
-seen_turn t (turn.Goes n) = goes (reading_of t n)
+-- the pieces that follow a line
+abbrev pub followed : Option (Bor (List ℕ)) → List (List ℕ)
+followed (Some s) = pieces s.now
+followed None = []
 
-abbrev pub TurnAfter : Lists → ℕ → LineTurn → Type 0
-TurnAfter t end (turn.Refused c) = Unit {0}
-TurnAfter t end (turn.Last n) = SoundLists t n × (n.text ≤ end)
-TurnAfter t end (turn.Goes n) = SoundLists t n × (n.text ≤ end)
+-- the lengths of a text, of its first line, and of what follows its byte 10
+abbrev pub SplitLong : ℕ → ℕ → Option (Bor (List ℕ)) → Type 0
+SplitLong n l (Some s) = l + 1 + length s.now ≡ n
+SplitLong n l None = l ≡ n
+
+-- what a line leads to, of the tables t
+abbrev pub turn_of : Lists → Counts → Result LineTurn Refusal → Step
+turn_of t n (Ok Last) = last (reading_of t n)
+turn_of t n (Ok Goes) = goes (reading_of t n)
+turn_of t n (Err e) = stop (refusal_number e)
+
+abbrev pub seen_turn : Stored → Result LineTurn Refusal → Step
+seen_turn p r = turn_of (lists_of p) p.counts r
+
+abbrev pub TurnAfter : Stored → ℕ → Result LineTurn Refusal → Type 0
+TurnAfter p end r = IfOk r (λ t. Sound p × (p.counts.text ≤ end))

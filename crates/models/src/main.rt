@@ -4,7 +4,7 @@
 
 ghost use Rattle.aspif.specs.Store.{WellFormed};
 
-use aspif::text::{Loading, Stored};
+use aspif::text::Stored;
 use stability::stable::Stability;
 use std::io;
 use std::rt::Files;
@@ -28,9 +28,9 @@ fn one_text(rt: &(impl Files + Print), name: &[u8]) -> io::Result<()> {
     let k = inputs::read(rt, name, &mut text)?;
     let loaded = aspif::text::load(&text[..k]);
     rt.write_all(name)?;
-    match loaded.answer {
-        Loading::Accepted => models(rt, &loaded.stored),
-        Loading::RefusedAt { .. } => rt.print(": refused\n"),
+    match loaded {
+        Ok(p) => models(rt, &p),
+        Err(_) => rt.print(": refused\n"),
     }
 }
 

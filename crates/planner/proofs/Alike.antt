@@ -9,7 +9,7 @@ use Rattle.asp.specs.Sets.{pick}
 use Rattle.asp.specs.Program.{Program, Symbol, atoms}
 use Rattle.aspif_lines.specs.Text.{Answer, accepted, refused, text_of}
 use Rattle.aspif.specs.Store.{stored_program}
-use Rattle.aspif.specs.declared.text.Stored.{Stored}
+use Rattle.aspif_tables.specs.declared.table.Stored.{Stored}
 use Rattle.advancing.specs.declared.state.Search.{Search}
 use Rattle.advancing.specs.Source.{FormedSource}
 use Rattle.advancing.specs.Facts.{has_model, best_in}

@@ -16,7 +16,7 @@ use Rattle.asp.specs.Stable.{Stable}
 use Rattle.asp.specs.Cost.{weight, W, costs, starts, NoDearer}
 use Rattle.aspif_lines.specs.Text.{Answer, accepted, text_of}
 use Rattle.aspif.specs.Store.{stored_program, stored_text, WellFormed}
-use Rattle.aspif.specs.declared.text.Stored.{Stored}
+use Rattle.aspif_tables.specs.declared.table.Stored.{Stored}
 use Rattle.aspif_lines.proofs.Spans.{append_nil, span_length}
 use Rattle.advancing.specs.declared.state.Phase.{Phase}
 use Rattle.advancing.specs.declared.state.Phase.TheVariants.{First, Level, Optimum, Incoherent, Full}

@@ -13,8 +13,8 @@ use Rattle.asp.specs.Sets.{pick}
 use Rattle.asp.specs.Tables.{span, row_at}
 use Rattle.aspif_lines.specs.Seen.{bytes_at}
 use Rattle.aspif.specs.Write.{written_of, buffer_of}
-use Rattle.aspif.specs.declared.write.Written.{Written}
-use Rattle.aspif.specs.declared.write.Written.TheVariants as written
+use Rattle.std.proofs.Common.{Result, Ok, Err}
+use Rattle.aspif.specs.declared.write.Short.{Short}
 use Rattle.aspif_lines.proofs.Spans.{span_snoc, span_length, span_shift}
 use Rattle.planner.specs.Held.{Holding}
 use Rattle.planner.specs.Calls.{Says, gives, refuses_for, fills, Filling, filling, filled_with, filled, room_for, says_written, name_of}
@@ -57,12 +57,12 @@ front_short f n old h = rw (span_length f 1 n, lt-ltb (length old) n h)
 written_says : (size room : ℕ) → says_written (written_of size room) ≡ room_for size room
 written_says size room = go (ltb room size)
   where
-    go : (b : Bool) → says_written (pick b (written.Short size) (written.Length size)) ≡ pick b (refuses_for 8 size) (gives size)
+    go : (b : Bool) → says_written (pick b (Err (record { needed = size })) (Ok size)) ≡ pick b (refuses_for 8 size) (gives size)
     go true = refl
     go false = refl
 
 -- a write of k bytes of a text
-pub written_fills : (t : List ℕ) (k : ℕ) (old bytes : List ℕ) {w : Written} {a : Says ℕ} → a ≡ says_written w → w ≡ written_of k (length old) → bytes ≡ buffer_of (bytes_at t 0 k) old
+pub written_fills : (t : List ℕ) (k : ℕ) (old bytes : List ℕ) {w : Result ℕ Short} {a : Says ℕ} → a ≡ says_written w → w ≡ written_of k (length old) → bytes ≡ buffer_of (bytes_at t 0 k) old
     → filling a bytes ≡ filled_with (bytes_at t 0 k) old
 written_fills t k old bytes p q e =
     ap₂ filling (p ∙ ap says_written q ∙ written_says k (length old) ∙ ap (λ (m : ℕ). room_for m (length old)) (sym (span_length (λ (j : ℕ). get_or t j 0) 0 k))) e

@@ -3,12 +3,9 @@ use mathlib.Core.Path.{◌≡◌, refl, subst}
 use Rattle.std.proofs.Math.Logic.{∥∥₁_elim, ∥∥₁_prop}
 use Rattle.std.specs.Prelude.{Some}
 use Prim.Native.Nat.{ℕ}
-use Rattle.aspif.specs.Store.{WellFormed, StoredAfter}
-use Rattle.aspif.specs.declared.text.Stored.{Stored}
-use Rattle.aspif.specs.declared.text.Loading.{Loading}
-use Rattle.aspif.specs.declared.text.Loading.TheVariants.{Accepted}
+use Rattle.aspif.specs.Store.{WellFormed}
+use Rattle.aspif_tables.specs.declared.table.Stored.{Stored}
 use Rattle.advancing.specs.declared.state.Search.{Search}
-use Rattle.advancing.specs.Source.{FormedSource, FormedLevels}
 use Rattle.advancing.specs.State.{fresh_for}
 use Rattle.advancing.proofs.Reached.{reached_fresh, reached_more}
 use Rattle.optimizer.specs.declared.prepare.Preparation.{Preparation}
@@ -18,28 +15,12 @@ use Rattle.planner.specs.Sound.{Sound}
 use Rattle.planner.specs.Calls.{moved_to, ran}
 use Rattle.planner.proofs.Link.{formed_source}
 
--- ---- load
-
-module _ (p : Stored) {a : Loading} (e : a ≡ Accepted) (f : StoredAfter p a) where
-  -- what an accepted text leaves is well formed
-  stored_well : WellFormed p
-  stored_well = subst (StoredAfter p) e f
-
-  pub stored_source : FormedSource (source_of p)
-  stored_source = formed_source p stored_well
-
-  pub stored_levels : FormedLevels (source_of p).levels
-  stored_levels = stored_source.levels
-
-  module _ {ix : Preparation} (o : PreparedFor p ix) {q : Search} (d : q ≡ fresh_for (source_of p).levels) where
-    sound_load : Sound (loaded p ix q)
-    sound_load = record { formed = stored_well; prepared = o; reached = reached_fresh stored_source d }
-
-    -- what a load leaves
-    pub loaded_sound : {x : Loaded} → holding p ix q ≡ Some x → ∥ Sound x ∥₁
-    loaded_sound {x} h = let k : loaded p ix q ≡ x = cc in subst (λ (y : Loaded). ∥ Sound y ∥₁) k ∣ sound_load ∣₁
-
--- ---- advance and run
+-- what a load leaves
+pub loaded_sound : (p : Stored) → WellFormed p → {ix : Preparation} → PreparedFor p ix → {q : Search} → q ≡ fresh_for (source_of p).levels → {x : Loaded} → holding p ix q ≡ Some x → ∥ Sound x ∥₁
+loaded_sound p w {ix} o {q} d {x} h =
+    let s : Sound (loaded p ix q) = record { formed = w; prepared = o; reached = reached_fresh (formed_source p w) d } in
+    let k : loaded p ix q ≡ x = cc in
+    subst (λ (y : Loaded). ∥ Sound y ∥₁) k ∣ s ∣₁
 
 -- an advance is a run of one
 pub sound_run : (b : ℕ) {l : Loaded} → Sound l → Sound (moved_to l (ran l b))

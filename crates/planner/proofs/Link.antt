@@ -16,7 +16,7 @@ use Rattle.asp.specs.Paying.{SymbolFormed}
 use Rattle.asp.proofs.Spans.{map_span, all_map, span_at}
 use Rattle.cores.proofs.Spans.{get_d_span}
 use Rattle.aspif.specs.Store.{stored_program, WellFormed}
-use Rattle.aspif.specs.declared.text.Stored.{Stored}
+use Rattle.aspif_tables.specs.declared.table.Stored.{Stored}
 use Rattle.aspif_lines.proofs.Spans.{span_same}
 use Rattle.advancing.specs.Source.{many, entries_in, level_at, start_at, levels_in, rules_in, FormedLevels, FormedSource}
 use Rattle.advancing.specs.Facts.{costs_in, weight_in}
@@ -45,7 +45,7 @@ module _ (p : Stored) (w : WellFormed p) where
   pub levels_many : many (source_of p).levels ≡ p.counts.levels
   levels_many = length-take-le p.counts.levels p.levels levels_reach
 
-  formed_levels : FormedLevels (source_of p).levels
+  pub formed_levels : FormedLevels (source_of p).levels
   formed_levels =
       record {
         entries =

@@ -6,7 +6,7 @@ use lib.IntN.{ℤ}
 use lib.ListN.{take}
 use Rattle.std.specs.Prelude.{Option, Some, None}
 use Rattle.aspif.specs.Store.{stored_program, stored_text, WellFormed}
-use Rattle.aspif.specs.declared.text.Stored.{Stored}
+use Rattle.aspif_tables.specs.declared.table.Stored.{Stored}
 use Rattle.advancing.specs.declared.state.Search.{Search}
 use Rattle.advancing.specs.Source.{many}
 use Rattle.advancing.specs.Advance.{advances_of}

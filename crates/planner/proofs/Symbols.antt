@@ -13,7 +13,7 @@ use Rattle.asp.specs.Program.{Symbol}
 use Rattle.asp.specs.Stable.{shown}
 use Rattle.asp.specs.Tables.{span}
 use Rattle.aspif.specs.Store.{stored_program}
-use Rattle.aspif.specs.declared.text.Stored.{Stored}
+use Rattle.aspif_tables.specs.declared.table.Stored.{Stored}
 use Rattle.cores.proofs.Sums.{below_or}
 use Rattle.advancing.specs.declared.state.Search.{Search}
 use Rattle.advancing.specs.Facts.{has_model, best_in}

@@ -9,7 +9,7 @@ use native.Mathlib.Omega.{arith}
 use Rattle.asp.specs.Sets.{pick}
 use Rattle.asp.specs.Program.{Program}
 use Rattle.aspif_lines.specs.Text.{Answer, accepted, refused, text_of}
-use Rattle.aspif.specs.declared.text.Stored.{Stored}
+use Rattle.aspif_tables.specs.declared.table.Stored.{Stored}
 use Rattle.advancing.specs.declared.state.Search.{Search}
 use Rattle.advancing.specs.State.{is_running, fresh_for}
 use Rattle.advancing.specs.Advance.{advance_of, advances_of, made_by}

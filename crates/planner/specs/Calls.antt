@@ -10,9 +10,9 @@ use Rattle.aspif_lines.specs.Text.{Answer, accepted, refused}
 use Rattle.aspif_lines.specs.Seen.{bytes_at}
 use Rattle.aspif.specs.Store.{stored_program, stored_text, WellFormed}
 use Rattle.aspif.specs.Write.{buffer_of}
-use Rattle.aspif.specs.declared.text.Stored.{Stored}
-use Rattle.aspif.specs.declared.write.Written.{Written}
-use Rattle.aspif.specs.declared.write.Written.TheVariants as written
+use Rattle.aspif_tables.specs.declared.table.Stored.{Stored}
+use Rattle.aspif.specs.declared.write.Short.{Short}
+use Rattle.aspif_fields.specs.Refusals.{refusal_number}
 use Rattle.advancing.specs.declared.state.Phase.{Phase}
 use Rattle.advancing.specs.declared.state.Search.{Search}
 use Rattle.advancing.specs.State.{fresh_for}
@@ -23,7 +23,7 @@ use Rattle.planner.specs.declared.service.Status.{Status}
 use Rattle.planner.specs.declared.service.Status.TheVariants as status
 use Rattle.planner.specs.declared.service.Refusal.{Refusal}
 use Rattle.planner.specs.declared.service.Refusal.TheVariants as refusal
-use Rattle.planner.specs.declared.load.RefusedAt.{RefusedAt}
+use Rattle.aspif.specs.declared.text.RefusedAt.{RefusedAt}
 use Rattle.planner.specs.declared.advance.Count.{Count}
 use Rattle.planner.specs.declared.look.InWork.{InWork}
 use Rattle.planner.specs.declared.look.View.{View}
@@ -86,7 +86,7 @@ pub data Loads : Type 0 where
 
 abbrev pub says_load : Result (Unit {0}) RefusedAt → Loads
 says_load (Ok u) = accepts
-says_load (Err e) = refuses_at e.number e.line
+says_load (Err e) = refuses_at (refusal_number e.refusal) e.line
 
 -- what a load answers and leaves, by what the text is (aspif's `text_of`)
 abbrev pub AfterLoad : Answer → Holding → Outcome Loads → Type 0
@@ -186,9 +186,9 @@ look_call s = outcome (seen_of s) s
 -- ---- calls that fill lent bytes
 
 -- of aspif's write
-abbrev pub says_written : Written → Says ℕ
-says_written (written.Length n) = gives n
-says_written (written.Short n) = refuses_for 8 n
+abbrev pub says_written : Result ℕ Short → Says ℕ
+says_written (Ok n) = gives n
+says_written (Err e) = refuses_for 8 e.needed
 
 -- t at the front of the bytes b and the rest as before; or "8: lent bytes too short .. the needed length is returned", and all as before
 abbrev pub room_for : ℕ → ℕ → Says ℕ

@@ -2,7 +2,7 @@
 use Rattle.std.specs.Prelude.{Option, Some, None, ℕ, take}
 use Rattle.asp.specs.Program.{Symbol}
 use Rattle.asp.specs.Tables.{row_at, symbol_at}
-use Rattle.aspif.specs.declared.text.Stored.{Stored}
+use Rattle.aspif_tables.specs.declared.table.Stored.{Stored}
 use Rattle.advancing.specs.declared.state.Phase.{Phase}
 use Rattle.advancing.specs.declared.state.Phase.TheVariants.{First, Level, Optimum, Incoherent, Full}
 use Rattle.advancing.specs.declared.state.Search.{Search}

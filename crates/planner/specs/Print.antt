@@ -2,7 +2,6 @@
 use Rattle.std.specs.Prelude.{List, ℕ, ◌++◌, codes}
 use Rattle.std.specs.Fmt.{decimal}
 use Rattle.planner.specs.declared.advance.Count.{Count}
-use Rattle.planner.specs.declared.load.RefusedAt.{RefusedAt}
 use Rattle.planner.specs.declared.service.Refusal.{Refusal}
 use Rattle.planner.specs.declared.service.Refusal.TheVariants as refusal
 use Rattle.planner.specs.declared.service.Status.{Status}
@@ -24,6 +23,3 @@ refusal_text refusal.NotLoaded = codes "refused 6"
 refusal_text refusal.NoModel = codes "refused 7"
 refusal_text (refusal.Short n) = codes "refused 8 needs " ++ decimal n
 refusal_text refusal.NoSymbol = codes "refused 9"
-
-abbrev pub refused_text : RefusedAt → List ℕ
-refused_text e = codes "refused " ++ decimal e.number ++ codes " at line " ++ decimal e.line

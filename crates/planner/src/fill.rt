@@ -3,15 +3,12 @@ ghost use Rattle.std.specs.Prelude.{◌≡◌};
 ghost use Rattle.planner.specs.Calls.{part_of, says, says_part, says_written};
 
 use crate::service::Refusal;
-use aspif::write::Written;
+use aspif::write::Short;
 
-pub fn written(w: Written) -> Result<usize, Refusal>
+pub fn written(w: Result<usize, Short>) -> Result<usize, Refusal>
     ensures { says result ≡ says_written w }
 {
-    match w {
-        Written::Length { length } => Ok(length),
-        Written::Short { needed } => Err(Refusal::Short { needed }),
-    }
+    w.map_err(|Short { needed }| Refusal::Short { needed })
 }
 
 // What a call wrote, as a part of the lent bytes; or its refusal.

@@ -3,26 +3,15 @@ ghost use Rattle.aspif_lines.specs.Text.{text_of};
 ghost use Rattle.planner.specs.Calls.{outcome, says_load, AfterLoad};
 
 use crate::service::{Loaded, Service};
-use aspif::text::Loading;
-
-// A text that is refused: the number of the reason, 1 to 5, and the line.
-#[derive(Clone, Copy, PartialEq, Eq, Debug)]
-pub struct RefusedAt {
-    pub number: u32,
-    pub line: usize,
-}
+pub use aspif::text::RefusedAt;
 
 impl Service {
     // "accepted, the service is as a fresh one given it, with status running"; refused, it is as before.
-    #[tactic(auto, using(crate::proofs::Kept::stored_source, crate::proofs::Kept::stored_levels, crate::proofs::Kept::loaded_sound))]
+    #[tactic(auto, using(crate::proofs::Link::formed_source, crate::proofs::Link::formed_levels))]
     pub fn load(&mut self, text: &[u8]) -> Result<(), RefusedAt>
         ensures { AfterLoad (text_of text.now) self.old.held (outcome (says_load result) self.new.held) }
     {
-        let read = aspif::text::load(text);
-        if let Loading::RefusedAt { number, line } = read.answer {
-            return Err(RefusedAt { number, line });
-        }
-        let stored = read.stored;
+        let stored = aspif::text::load(text)?;
         let counts = stored.counts;
         let levels = &stored.levels[..counts.levels];
         let prepared = optimizer::prepare::prepare(

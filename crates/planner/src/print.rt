@@ -1,6 +1,5 @@
 // The answers in print: a status by its name, a refusal by its number.
 use crate::advance::Count;
-use crate::load::RefusedAt;
 use crate::service::{Refusal, Status};
 use std::fmt;
 
@@ -47,18 +46,5 @@ impl fmt::Display for Refusal {
             Refusal::Short { needed } => write!(f, "refused 8 needs {needed}"),
             Refusal::NoSymbol => f.write_str("refused 9"),
         }
-    }
-}
-
-// "A refused load prints only `refused 2 at line 3`, with its own numbers."
-impl fmt::Display for RefusedAt {
-    ghost use Rattle.std.specs.Prelude.{Some};
-    ghost use Rattle.planner.specs.Print.{refused_text};
-
-    ghost output = { λ e. Some (refused_text e) };
-
-    fn fmt<W: fmt::Write>(&self, f: &mut fmt::Formatter<W>) -> fmt::Result {
-        let RefusedAt { number, line } = self;
-        write!(f, "refused {number} at line {line}")
     }
 }

@@ -1,5 +1,6 @@
-use Rattle.aspif.proofs.Loads.{load_answer}
+use Rattle.std.proofs.Common.{sym}
+use Rattle.aspif.proofs.Loads.{well_formed}
 use Rattle.aspif.proofs.text.load.Goals as goal
 
-pub returns : goal.returns
-returns c = load_answer _ c.read_text-verdict.result _ _ c.counts_of-counts.ensures c.answer_of-answer.ensures c.read_text-verdict.ensures.0 c.read_text-verdict.ensures.1
+pub returns-clause-formed : goal.returns-clause-formed
+returns-clause-formed c = well_formed _ c.args.s.now c.in_ok-read_text.ensures.after (sym c.in_ok-read_text.ensures.answer)

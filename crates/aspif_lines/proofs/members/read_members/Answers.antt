@@ -1,49 +1,38 @@
-use mathlib.Core.Path.{◌≡◌, sym, ap, ◌∙◌}
-use Prim.Native.Nat.{◌+◌, ◌<◌}
-use native.Mathlib.Omega.{arith}
-use lib.IntN.{pos, nat_abs}
-use native.Mathlib.Nat.{sub-zero}
-use Rattle.aspif_fields.specs.SeenFields.{seen_signed}
-use lib.ListN.{length}
-use Rattle.aspif_lines.specs.Text.{member_field}
+use Rattle.std.proofs.Common.{◌≡◌, ◌+◌, ◌<◌, arith, pos, nat_abs, length}
+use Rattle.std.proofs.lemmas.Result.{err_from_is_err_and}
 use Rattle.asp.specs.Tables.{span, literals_at}
-use Rattle.aspif_lines.proofs.Spans.{literals_at_push, kept_refl, kept_set, highest_snoc, highest_none, more_got, more_bad, more_done}
 use Rattle.aspif_fields.proofs.Signs.{back}
+use Rattle.aspif_lines.proofs.Spans.{literals_at_push, highest_snoc, highest_none, kept_refl, kept_set, more_start, more_next, more_stop, more_done}
 use Rattle.aspif_lines.proofs.members.read_members.Goals as goal
 
 pub loop-i-init : goal.loop-i-init
 unfolding span
-loop-i-init c = (omega arith, rw (sub-zero c.args.k), kept_refl (pos 0) c.args.used c.args.pool.now, highest_none nat_abs c.args.start)
+loop-i-init g c = (c.requires.1.1.0, more_start, kept_refl (pos 0) c.args.used c.args.pool.now, highest_none nat_abs c.args.start)
 
-pub returns-in_default : goal.returns-in_default
-returns-in_default c =
-    let args = c.args in
-    let loop = c.loop-i in
-    let loop-test = c.loop-i-test in
-    let read-member = c.read_member-m in
-    (rw (c.code.ensures, ← loop.invariant.1, more_bad (member_field args.head) args.k loop.i _ _ _ loop-test.true (sym read-member.ensures.0 ∙ ap (seen_signed args.s.now) c.in_default.is), c.in_default.is), tt, loop.invariant.2)
+pub returns-in_err-literal-clause-answer : goal.returns-in_err-literal-clause-answer
+returns-in_err-literal-clause-answer g c =
+    let p = err_from_is_err_and c.from_residual.result c.from_residual.ensures.1 in
+    let m = c.requires.1.1.1 _ _ _ c.in_err-literal.ensures in
+    rw (p.1, p.2) (more_stop c.loop-i.invariant.1 c.loop-i-test.true m.answer)
 
 pub loop-i-preserved : goal.loop-i-preserved
-loop-i-preserved c =
-    let args = c.args in
+loop-i-preserved g c =
     let loop = c.loop-i in
-    let loop-test = c.loop-i-test in
-    let read-member = c.read_member-m in
-    let w = rw c.in-Whole.is at read-member.ensures.1 in
-    let z = c.in-Whole.value in
-    let b = back z (omega (arith, w)) in
-    let u = args.used in
-    let pool = loop.pool in
+    let u = c.args.used in
     let i = loop.i in
-    let h : u + i < length pool = omega (arith, loop.invariant.2.long) in (
-      omega arith,
-      rw (b, literals_at_push pool u i z h) (sym (more_got (member_field args.head) args.k i (literals_at pool u i) _ _ _ loop-test.true (sym read-member.ensures.0 ∙ ap (seen_signed args.s.now) c.in-Whole.is)) ∙ loop.invariant.1),
+    let pool = loop.pool in
+    let h : u + i < length pool = omega (arith, loop.invariant.2.long) in
+    let m = c.requires.1.1.1 _ _ _ c.in_ok-literal.ensures in
+    let z = c.in_ok-literal.literal in
+    let b = back z (omega (arith, m.range)) in
+    let t = rw b at c.atom.ensures in (
+      loop.invariant.0,
+      rw (b, literals_at_push pool u i z h) (more_next _ _ loop.invariant.1 c.loop-i-test.true m.answer),
       kept_set (pos 0) u _ pool (u + i) _ loop.invariant.2 (omega arith),
-      rw (b, literals_at_push pool u i z h, highest_snoc nat_abs (literals_at pool u i) z) (omega (arith, loop.invariant.3, rw b at c.higher-top.ensures)),
+      rw (b, literals_at_push pool u i z h, highest_snoc nat_abs (literals_at pool u i) z) (omega (arith, loop.invariant.3, t, c.max-top.ensures)),
     )
 
-pub returns : goal.returns
-returns c =
-    let args = c.args in
-    let e : c.loop-i.i ≡ args.k = omega arith in
-    (rw (← c.loop-i.invariant.1, more_done (member_field args.head) args.k c.loop-i.i _ _ c.loop-i-test.false, e), rw e at c.loop-i.invariant.3, c.loop-i.invariant.2)
+pub returns-clause-answer : goal.returns-clause-answer
+returns-clause-answer g c =
+    let e : c.loop-i.i ≡ c.args.k = omega arith in
+    rw e at (more_done c.loop-i.invariant.1 c.loop-i-test.false)

@@ -1,19 +1,13 @@
-use mathlib.Core.Path.{◌≡◌}
-use mathlib.Core.List.{[]}
-use Prim.Native.Nat.{◌-◌, ◌≤◌, max}
-use lib.IntN.{pos, nat_abs}
+use Rattle.std.proofs.Common.{◌≡◌, max, pos, nat_abs}
 use Rattle.asp.specs.Program.{highest}
-use lib.ListN.{drop}
-use Rattle.aspif_lines.specs.Text.{member_field, more}
 use Rattle.asp.specs.Tables.{literals_at}
+use Rattle.aspif_lines.specs.Text.{member_field}
 use Rattle.aspif_lines.specs.Seen.{Kept}
+use Rattle.aspif_lines.proofs.Spans.{MoreLeft}
 use Rattle.aspif_lines.proofs.members.read_members.Given as goal
 
 abbrev pub invariant-loop-i : goal.invariant-loop-i
-invariant-loop-i l = (l.i ≤ l.k)
-    × (more (member_field l.head) (l.k - l.i) (literals_at l.pool l.used l.i) (drop l.p l.s) ≡ more (member_field l.head) l.k [] (drop l.at l.s))
+invariant-loop-i g l = goal.F-IsAlwaysCallable g l.member
+    × MoreLeft (member_field g.head) l.k l.i (literals_at l.pool l.used l.i) l.rest.bytes.now l.fn.rest.bytes.now
     × Kept (pos 0) l.used l.initial.pool l.pool
     × (l.top ≡ max l.start (highest nat_abs (literals_at l.pool l.used l.i)))
-
-abbrev pub decreases-loop-i : goal.decreases-loop-i
-decreases-loop-i l = l.k - l.i

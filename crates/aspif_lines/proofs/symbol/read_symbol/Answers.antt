@@ -1,62 +1,27 @@
-use native.Mathlib.Omega.{arith}
-use lib.IntN.{pos}
+use Rattle.std.proofs.Common.{◌-◌, arith, length}
+use Rattle.aspif_fields.proofs.Tokens.{natural_ending}
 use Rattle.aspif_lines.specs.Text.{symbol_line}
-use Rattle.aspif_lines.proofs.Spans.{kept_refl}
+use Rattle.aspif_lines.proofs.Names.{bytes_after}
 use Rattle.aspif_lines.proofs.symbol.read_symbol.Goals as goal
 
-pub returns-in_default : goal.returns-in_default
-unfolding symbol_line
-returns-in_default c = (rw (c.code.ensures, ← c.read_natural-f.ensures.0, c.in_default.is), tt, tt, kept_refl (pos 0) _ _)
+pub overflow_sub-name : goal.overflow_sub-name
+overflow_sub-name c = (natural_ending 1 64 _ _ _ c.in_ok-length.ensures.answer).less
 
-pub returns-in_default-read_name : goal.returns-in_default-read_name
+pub returns-clause-answer : goal.returns-clause-answer
 unfolding symbol_line
-returns-in_default-read_name c =
-    let read-natural = c.read_natural-f in
-    let size = c.size-length in
-    let read_name = c.read_name in
-    (rw (← read-natural.ensures.0, c.in-Value.is, ← size.ensures, ← read_name.ensures.0, c.in_default-read_name.is), tt, tt, kept_refl (pos 0) _ _)
+returns-clause-answer c =
+    let s = c.args.rest.now.bytes.now in
+    let after = c.read_natural.new.self.bytes.now in
+    let end = natural_ending 1 64 _ _ _ c.in_ok-length.ensures.answer in
+    let name = rw (← end.is) at (bytes_after s (length s - length after) 1 c.in_ok-length.length) in
+    rw (← name, ← c.in_ok-length.ensures.answer, ← c.in_ok-read_name.ensures.answer, ← c.in_ok-shown.ensures.answer, ← c.in_ok-top.ensures.answer, c.in_ok-read_end.ensures)
 
-pub returns-in_default-n : goal.returns-in_default-n
-unfolding symbol_line
-returns-in_default-n c =
-    let read-natural = c.read_natural-f in
-    let size = c.size-length in
-    let read_name = c.read_name in
-    let read-natural2 = c.read_natural-n in
-    (rw (c.code-in_default-n.ensures, ← read-natural.ensures.0, c.in-Value.is, ← size.ensures, ← read_name.ensures.0, c.in-Until.is, ← read-natural2.ensures.0, c.in_default-n.is), tt, tt, kept_refl (pos 0) _ _)
-
-pub returns-in_default-l : goal.returns-in_default-l
-unfolding symbol_line
-returns-in_default-l c =
-    let read-natural = c.read_natural-f in
-    let size = c.size-length in
-    let read_name = c.read_name in
-    let read-natural2 = c.read_natural-n in
-    let size2 = c.size-shown in
-    let read-members = c.read_members-l in
-    (rw (c.code-in_default-l.ensures, ← read-natural.ensures.0, c.in-Value.is, ← size.ensures, ← read_name.ensures.0, c.in-Until.is, ← read-natural2.ensures.0, c.in-Value-n.is, ← size2.ensures, ← read-members.ensures.0, c.in_default-l.is), tt, tt, read-members.ensures.2)
-
-pub returns-then-is_ended : goal.returns-then-is_ended
-unfolding symbol_line
-returns-then-is_ended c =
-    let read-natural = c.read_natural-f in
-    let size = c.size-length in
-    let read_name = c.read_name in
-    let read-natural2 = c.read_natural-n in
-    let size2 = c.size-shown in
-    let read-members = c.read_members-l in
-    let i = rw c.in-Until.is at read_name.ensures.1 in
-    let m = rw c.in-Value.is at read-natural.ensures.1 in
-    let k = rw c.in-Value-n.is at read-natural2.ensures.1 in
-    (rw (← read-natural.ensures.0, c.in-Value.is, ← size.ensures, ← read_name.ensures.0, c.in-Until.is, ← read-natural2.ensures.0, c.in-Value-n.is, ← size2.ensures, ← read-members.ensures.0, c.in-Upto.is, ← c.is_ended.ensures, c.if-is_ended.true), (i, omega (arith, m, size.ensures), omega (arith, m, size.ensures), omega (arith, k, size2.ensures)), rw c.in-Upto.is at read-members.ensures.1, read-members.ensures.2)
-
-pub returns : goal.returns
-unfolding symbol_line
-returns c =
-    let read-natural = c.read_natural-f in
-    let size = c.size-length in
-    let read_name = c.read_name in
-    let read-natural2 = c.read_natural-n in
-    let size2 = c.size-shown in
-    let read-members = c.read_members-l in
-    (rw (← read-natural.ensures.0, c.in-Value.is, ← size.ensures, ← read_name.ensures.0, c.in-Until.is, ← read-natural2.ensures.0, c.in-Value-n.is, ← size2.ensures, ← read-members.ensures.0, c.in-Upto.is, ← c.is_ended.ensures, c.if-is_ended.false), tt, tt, read-members.ensures.2)
+pub returns-clause-small : goal.returns-clause-small
+returns-clause-small c =
+    let end = natural_ending 1 64 _ _ _ c.in_ok-length.ensures.answer in
+    record {
+      inside = omega (arith, end.less, c.in_ok-read_name.ensures.inside);
+      some = c.in_ok-length.ensures.range.0;
+      short = c.in_ok-length.ensures.range.1;
+      few = c.in_ok-shown.ensures.range.1;
+    }

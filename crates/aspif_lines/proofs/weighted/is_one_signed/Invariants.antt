@@ -1,9 +1,9 @@
-use Prim.Native.Nat.{◌-◌}
+use Rattle.std.proofs.Common.{length}
 use Rattle.aspif_lines.proofs.Pairs.{SignsLeft}
 use Rattle.aspif_lines.proofs.weighted.is_one_signed.Given as goal
 
-abbrev pub invariant-loop-j : goal.invariant-loop-j
-invariant-loop-j l = SignsLeft l.pool l.i l.k l.end l.j
+abbrev pub invariant-loop-l : goal.invariant-loop-l
+invariant-loop-l l = SignsLeft l.rest l.fn.literals
 
-abbrev pub decreases-loop-j : goal.decreases-loop-j
-decreases-loop-j l = l.end - l.j
+abbrev pub decreases-loop-l : goal.decreases-loop-l
+decreases-loop-l l = length l.rest

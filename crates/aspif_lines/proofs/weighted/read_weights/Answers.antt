@@ -1,54 +1,40 @@
-use mathlib.Core.Path.{◌≡◌, sym, ap, ◌∙◌}
-use Prim.Native.Nat.{◌+◌, ◌<◌}
-use native.Mathlib.Omega.{arith}
-use native.Mathlib.Nat.{sub-zero}
-use lib.IntN.{pos, nat_abs}
-use lib.ListN.{length, set}
-use Rattle.asp.specs.Tables.{span, literals_at, pairs_at}
-use Rattle.aspif_fields.specs.Fields.{weighed_field}
-use Rattle.aspif_fields.specs.SeenFields.{seen_weighed}
-use Rattle.aspif_lines.proofs.Pairs.{pairs_push, literals_push}
-use Rattle.aspif_lines.proofs.Spans.{highest_snoc, highest_none, kept_refl, kept_set, more_got, more_bad, more_done}
+use Rattle.std.proofs.Common.{◌≡◌, ◌+◌, ◌<◌, ◌≤◌, arith, pos, nat_abs, length, set}
+use Rattle.std.proofs.lemmas.Result.{err_from_is_err_and}
+use Rattle.asp.specs.Tables.{span, literals_at}
 use Rattle.aspif_fields.proofs.Signs.{back}
+use Rattle.aspif_lines.proofs.Pairs.{pairs_push, literals_push}
+use Rattle.aspif_lines.proofs.Spans.{highest_snoc, highest_none, kept_refl, kept_set, more_start, more_next, more_stop, more_done}
 use Rattle.aspif_lines.proofs.weighted.read_weights.Goals as goal
 
 pub loop-i-init : goal.loop-i-init
 unfolding span
-loop-i-init c = (omega arith, rw (sub-zero c.args.k), kept_refl (pos 0) c.args.used c.args.pool.now, highest_none nat_abs c.args.start)
+loop-i-init c = (more_start, kept_refl (pos 0) c.args.used c.args.pool.now, highest_none nat_abs c.args.start)
 
-pub returns-in_default : goal.returns-in_default
-returns-in_default c =
-    let args = c.args in
-    let loop = c.loop-i in
-    let loop-test = c.loop-i-test in
-    let read-weighed = c.read_weighed-m in
-    (rw (c.code.ensures, ← loop.invariant.1, more_bad weighed_field args.k loop.i _ _ _ loop-test.true (sym read-weighed.ensures.0 ∙ ap (seen_weighed args.s.now) c.in_default.is), c.in_default.is), tt, loop.invariant.2)
+pub returns-in_err-literal-clause-answer : goal.returns-in_err-literal-clause-answer
+returns-in_err-literal-clause-answer c =
+    let p = err_from_is_err_and c.from_residual.result c.from_residual.ensures.1 in
+    rw (p.1, p.2) (more_stop c.loop-i.invariant.0 c.loop-i-test.true c.in_err-literal.ensures.answer)
 
 pub loop-i-preserved : goal.loop-i-preserved
 loop-i-preserved c =
-    let args = c.args in
     let loop = c.loop-i in
-    let loop-test = c.loop-i-test in
-    let read-weighed = c.read_weighed-m in
-    let w = rw c.in-Paired.is at read-weighed.ensures.1 in
-    let z = c.in-Paired.literal in
-    let b = back z (omega (arith, w)) in
-    let v = c.in-Paired.weight in
-    let d = back v (omega (arith, w)) in
-    let u = args.used in
-    let k = args.k in
-    let pool = loop.pool in
+    let u = c.args.used in
+    let k = c.args.k in
     let i = loop.i in
-    let h : u + i + k + 1 < length pool = omega (arith, loop.invariant.2.long) in (
-      omega arith,
-      rw (b, d, pairs_push pool k u i z v loop.invariant.0 h)
-          (sym (more_got weighed_field k i (pairs_at pool (k + 1) u i) _ _ _ loop-test.true (sym read-weighed.ensures.0 ∙ ap (seen_weighed args.s.now) c.in-Paired.is)) ∙ loop.invariant.1),
-      kept_set (pos 0) u _ (set pool (u + i) _) (u + i + k + 1) _ (kept_set (pos 0) u _ pool (u + i) _ loop.invariant.2 (omega arith)) (omega arith),
-      rw (b, d, literals_push pool k u i z v loop.invariant.0 h, highest_snoc nat_abs (literals_at pool u i) z) (omega (arith, loop.invariant.3, rw b at c.higher-top.ensures)),
+    let pool = loop.pool in
+    let h : u + i + k + 1 < length pool = omega (arith, loop.invariant.1.long) in
+    let few : i ≤ k = omega arith in
+    let pair = c.in_ok-literal.field-0 in
+    let range = c.in_ok-literal.ensures.range in
+    let b = back pair.literal (omega (arith, range)) in
+    let d = back pair.weight (omega (arith, range)) in
+    let t = rw b at c.atom.ensures in (
+      rw (b, d, pairs_push pool k u i pair.literal pair.weight few h) (more_next _ _ loop.invariant.0 c.loop-i-test.true c.in_ok-literal.ensures.answer),
+      kept_set (pos 0) u _ (set pool (u + i) _) (u + i + k + 1) _ (kept_set (pos 0) u _ pool (u + i) _ loop.invariant.1 (omega arith)) (omega arith),
+      rw (b, d, literals_push pool k u i pair.literal pair.weight few h, highest_snoc nat_abs (literals_at pool u i) pair.literal) (omega (arith, loop.invariant.2, t, c.max-top.ensures)),
     )
 
-pub returns : goal.returns
-returns c =
-    let args = c.args in
-    let e : c.loop-i.i ≡ args.k = omega arith in
-    (rw (← c.loop-i.invariant.1, more_done weighed_field args.k c.loop-i.i _ _ c.loop-i-test.false, e), rw e at c.loop-i.invariant.3, c.loop-i.invariant.2)
+pub returns-clause-answer : goal.returns-clause-answer
+returns-clause-answer c =
+    let e : c.loop-i.i ≡ c.args.k = omega arith in
+    rw e at (more_done c.loop-i.invariant.0 c.loop-i-test.false)

@@ -1,0 +1,5 @@
+use Rattle.std.proofs.Common.{false}
+use Rattle.aspif_lines.proofs.symbol.read_symbol.Given as goal
+
+abbrev pub ghost-read_members : goal.ghost-read_members
+ghost-read_members a = false
