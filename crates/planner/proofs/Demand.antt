@@ -10,8 +10,9 @@ use lib.IntN.{ℤ, pos}
 use lib.ListN.{length, get_or, drop, drop_of_length-le}
 use lib.Signed.{lt_z, ◌<ℤ◌}
 use borrow.Author.Tests.{le-ltb}
+use Rattle.asp.specs.declared.entries.Entry.{Entry}
 use Rattle.asp.specs.Sets.{Set, pick}
-use Rattle.asp.specs.Program.{Program, Entry, All, atoms}
+use Rattle.asp.specs.Program.{Program, All, atoms}
 use Rattle.asp.specs.Stable.{Stable}
 use Rattle.asp.specs.Cost.{weight, W, costs, starts, NoDearer}
 use Rattle.aspif_lines.specs.Text.{Answer, accepted, text_of}

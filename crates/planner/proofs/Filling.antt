@@ -10,7 +10,8 @@ use lib.ListN.{length, get_or, take, drop, set, length-drop}
 use lib.Seq.{drop-cons, get_or-drop, take-length}
 use borrow.Author.Tests.{lt-ltb}
 use Rattle.asp.specs.Sets.{pick}
-use Rattle.asp.specs.Tables.{span, row_at}
+use Rattle.asp.specs.Tables.{span}
+use Rattle.asp.specs.declared.symbols.SymbolRow.{SymbolRow}
 use Rattle.aspif_lines.specs.Seen.{bytes_at}
 use Rattle.aspif.specs.Write.{written_of, buffer_of}
 use Rattle.std.proofs.Common.{Result, Ok, Err}
@@ -81,7 +82,7 @@ pub fills_as : (s : Holding) (t old : List ℕ) {a : Says ℕ} {b : List ℕ} �
 fills_as s t old e = ap (λ (x : Filling). fills x.answer s x.bytes) e
 
 -- a name, from the row of its symbol
-pub name_fills : (text symbols : List ℕ) (i : ℕ) (old : List ℕ) {x y : ℕ} → x ≡ get_or symbols (i * 4) 0 → y ≡ get_or symbols (i * 4 + 1) 0 → {t : List ℕ} → t ≡ drop x text
-    → {z : Filling} → z ≡ filled_with (bytes_at t 0 y) old → z ≡ filled_with (name_of text (row_at symbols i)) old
-name_fills text symbols i old {x} {y} p q r e =
+pub name_fills : (text : List ℕ) (row : SymbolRow) (old : List ℕ) {x y : ℕ} → x ≡ row.name → y ≡ row.length → {t : List ℕ} → t ≡ drop x text
+    → {z : Filling} → z ≡ filled_with (bytes_at t 0 y) old → z ≡ filled_with (name_of text row) old
+name_fills text row old {x} {y} p q r e =
     e ∙ ap (λ (u : List ℕ). filled_with u old) (ap (λ (u : List ℕ). bytes_at u 0 y) r ∙ bytes_from text x y ∙ ap₂ (bytes_at text) p q)

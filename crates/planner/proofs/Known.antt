@@ -5,9 +5,11 @@ use Rattle.std.proofs.Math.Logic.{∥∥₁_elim}
 use Rattle.std.proofs.Props.{props}
 use Rattle.std.specs.Coded.{×_prop, Unit-prop, le_prop}
 use mathlib.Core.HLevel.{Σ_prop_path}
-use Rattle.asp.specs.Program.{Head, constraint, plain, choice, Body, normal, weighted, Rule, Entry, All, HeadIn, BodyIn, RuleIn}
+use Rattle.asp.specs.declared.entries.Entry.{Entry}
+use Rattle.asp.specs.Program.{Head, constraint, plain, choice, Body, normal, weighted, Rule, All, HeadIn, BodyIn, RuleIn}
 use Rattle.asp.specs.Sets.{In}
-use Rattle.asp.specs.Tables.{row_at}
+use Rattle.asp.specs.Tables.{symbol_row}
+use Rattle.asp.specs.declared.symbols.SymbolRow.{SymbolRow}
 use Rattle.asp.specs.Paying.{SymbolFormed}
 use Rattle.cores.proofs.Sums.{below_or}
 use Rattle.advancing.specs.declared.state.Search.{Search}
@@ -61,8 +63,8 @@ formed_prop S = Prim.hlevel (rules_prop, entries_prop, props)
 literals_prop : (n : ℕ) (ls : List ℤ) → IsProp (All (λ (l : ℤ). In n (nat_abs l)) ls)
 literals_prop n ls = all_prop (λ l. in_prop n (nat_abs l)) ls
 
-symbol_prop : (conditions : List ℤ) (symbols : List ℕ) (i : ℕ) → IsProp (SymbolFormed conditions symbols i)
-symbol_prop conditions symbols i = Prim.hlevel (literals_prop, props)
+symbol_prop : (conditions : List ℤ) (row : SymbolRow) → IsProp (SymbolFormed conditions row)
+symbol_prop conditions row = Prim.hlevel (literals_prop, props)
 
 prepared_prop : (l : Loaded) → IsProp (PreparedFor l.stored l.prepared)
 prepared_prop l = Prim.hlevel props
@@ -164,17 +166,23 @@ module _ {l : Loaded} (h : ∥ Sound l ∥₁) where
   pub known_levels : l.stored.counts.levels ≤ 8
   known_levels = ∥∥₁_elim h le_prop (λ s. s.formed.within.levels)
 
+  pub known_entries : l.stored.counts.entries ≤ 512
+  known_entries = ∥∥₁_elim h le_prop (λ s. s.formed.within.entries)
+
+  pub known_symbols : l.stored.counts.symbols ≤ 512
+  known_symbols = ∥∥₁_elim h le_prop (λ s. s.formed.within.symbols)
+
   pub known_text : l.stored.counts.text ≤ length l.stored.text
   known_text = ∥∥₁_elim h le_prop (λ s. omega (arith, s.formed.text, s.formed.sized.text))
 
   pub known_atoms : l.stored.counts.atoms ≤ 1024
   known_atoms = ∥∥₁_elim h le_prop (λ s. s.formed.formed.few)
 
-  pub known_name : (i : ℕ) → i < l.stored.counts.symbols → (i * 4 + 4 ≤ length l.stored.symbols) × ((row_at l.stored.symbols i).a + (row_at l.stored.symbols i).b ≤ length l.stored.text)
-  known_name i b = ∥∥₁_elim h (×_prop le_prop le_prop) (λ s. name_inside l.stored s.formed i b)
+  pub known_name : (i : ℕ) → i < l.stored.counts.symbols → (symbol_row l.stored.symbols i).name + (symbol_row l.stored.symbols i).length ≤ length l.stored.text
+  known_name i b = ∥∥₁_elim h le_prop (λ s. name_inside l.stored s.formed i b)
 
-  pub known_symbol : (i : ℕ) → i < l.stored.counts.symbols → SymbolFormed l.stored.conditions l.stored.symbols i
-  known_symbol i b = ∥∥₁_elim h (symbol_prop l.stored.conditions l.stored.symbols i) (λ s. symbol_formed l.stored s.formed i b)
+  pub known_symbol : (i : ℕ) → i < l.stored.counts.symbols → SymbolFormed l.stored.conditions (symbol_row l.stored.symbols i)
+  known_symbol i b = ∥∥₁_elim h (symbol_prop l.stored.conditions (symbol_row l.stored.symbols i)) (λ s. symbol_formed l.stored s.formed i b)
 
   -- the level in work is one of the levels
   pub known_level : is_in_work l.search.phase ≡ true → l.search.work.level < 8

@@ -8,12 +8,13 @@ use native.Mathlib.Numerals.{add-one}
 use lib.IntN.{ℤ, pos}
 use lib.ListN.{length, get_or, take, drop}
 use lib.Seq.{drop-cons, get_or-take, length-take-le}
+use Rattle.asp.specs.declared.entries.Entry.{Entry}
 use Rattle.asp.specs.Sets.{Set}
-use Rattle.asp.specs.Program.{Entry, Symbol, All, LiteralIn, atoms}
+use Rattle.asp.specs.Program.{Symbol, All, LiteralIn, atoms}
 use Rattle.asp.specs.Cost.{level, levels, weight, total, W, cost, costs, start, starts}
-use Rattle.asp.specs.Tables.{span, row_at, symbol_at, condition_at}
+use Rattle.asp.specs.Tables.{span, no_entry, symbol_row, symbol_at, condition_at}
 use Rattle.asp.specs.Paying.{SymbolFormed}
-use Rattle.asp.proofs.Spans.{map_span, all_map, span_at}
+use Rattle.asp.proofs.Spans.{map_span, all_map, all_at, span_at}
 use Rattle.cores.proofs.Spans.{get_d_span}
 use Rattle.aspif.specs.Store.{stored_program, WellFormed}
 use Rattle.aspif_tables.specs.declared.table.Stored.{Stored}
@@ -45,20 +46,30 @@ module _ (p : Stored) (w : WellFormed p) where
   pub levels_many : many (source_of p).levels ≡ p.counts.levels
   levels_many = length-take-le p.counts.levels p.levels levels_reach
 
+  entries_reach : p.counts.entries ≤ length p.entries
+  entries_reach = omega (arith, w.sized.entries, w.within.entries)
+
+  entries_many : length (take p.counts.entries p.entries) ≡ p.counts.entries
+  entries_many = length-take-le p.counts.entries p.entries entries_reach
+
+  pub entries_is : take p.counts.entries p.entries ≡ (stored_program p).entries
+  entries_is = sym (span_take no_entry p.entries p.counts.entries entries_reach)
+
+  named_entries : All (λ (e : Entry). LiteralIn p.counts.atoms e.literal) (take p.counts.entries p.entries)
+  named_entries = rw entries_is w.named.entries
+
   pub formed_levels : FormedLevels (source_of p).levels
   formed_levels =
       record {
         entries =
             record {
-              few = omega (arith, w.within.entries);
-              priorities_long = omega (arith, w.within.entries, w.sized.priorities);
-              literals_long = omega (arith, w.within.entries, w.sized.literals);
-              weights_long = omega (arith, w.within.entries, w.sized.weights);
-              atoms = all_map _ _ (λ (e : Entry) h. (h.0, omega (arith, h.1, w.formed.few))) (entries_in (source_of p).levels) w.named.entries;
+              few = omega (arith, entries_many, w.within.entries);
+              atoms = all_at (λ (e : Entry). LiteralIn 1024 e.literal) no_entry (take p.counts.entries p.entries)
+                  (all_map _ _ (λ (e : Entry) h. (h.0, omega (arith, h.1, w.formed.few))) (take p.counts.entries p.entries) named_entries);
             };
-        few = w.within.entries;
+        few = omega (arith, entries_many, w.within.entries);
         levels_few = omega (arith, levels_many, w.within.levels);
-        light = w.weights;
+        light = rw entries_is w.weights;
       }
 
   -- THE TABLES ARE WELL FORMED
@@ -66,7 +77,7 @@ module _ (p : Stored) (w : WellFormed p) where
   formed_source = record {
     rules = w.formed;
     levels = formed_levels;
-    atoms = w.named.entries;
+    atoms = named_entries;
     readied = ready w.formed w.within.rules (omega (arith, w.size, sizes p.pool p.rules p.counts.rules w.formed 0 p.counts.rules (omega arith)));
   }
 
@@ -89,6 +100,7 @@ module _ (p : Stored) (w : WellFormed p) where
       ap (span (level_at L) 0) levels_many
       ∙ span_same (level_at L) (λ (j : ℕ). level (get_or p.levels j (pos 0)) es) 0 k (λ j l. ap (λ (q : ℤ). level q es) (get_or-take k p.levels j (pos 0) (omega arith)))
       ∙ sym (map_span (λ (q : ℤ). level q es) (λ (j : ℕ). get_or p.levels j (pos 0)) 0 k)
+      ∙ ap (λ (xs : List Entry). map (λ (q : ℤ). level q xs) (stored_program p).priorities) entries_is
 
   pub weight_is : weight_in (source_of p) ≡ W (stored_program p)
   weight_is = ap (λ (l : List (List Entry)). total (map weight l)) levels_is
@@ -107,16 +119,15 @@ module _ (p : Stored) (w : WellFormed p) where
   -- ---- symbols lie inside their tables
 
   module _ (i : ℕ) (h : i < p.counts.symbols) where
-    pub name_inside : (i * 4 + 4 ≤ length p.symbols) × ((row_at p.symbols i).a + (row_at p.symbols i).b ≤ length p.text)
-    name_inside = (omega (arith, w.within.symbols, w.sized.symbols), omega (arith, (w.symbols i h).0, w.text, w.sized.text))
+    pub name_inside : (symbol_row p.symbols i).name + (symbol_row p.symbols i).length ≤ length p.text
+    name_inside = omega (arith, (w.symbols i h).0, w.text, w.sized.text)
 
-    pub symbol_formed : SymbolFormed p.conditions p.symbols i
+    pub symbol_formed : SymbolFormed p.conditions (symbol_row p.symbols i)
     symbol_formed =
         record {
-          long = name_inside.0;
           inside = omega (arith, (w.symbols i h).1, w.within.conditions, w.sized.conditions);
           atoms =
-              all_map (LiteralIn p.counts.atoms) (LiteralIn 1024) (λ z a. (a.0, omega (arith, a.1, w.formed.few))) (condition_at p.conditions (row_at p.symbols i))
-              (span_at (λ (j : ℕ). symbol_at p.text p.conditions (row_at p.symbols j)) (λ (s : Symbol). All (LiteralIn p.counts.atoms) s.condition) 0 p.counts.symbols
+              all_map (LiteralIn p.counts.atoms) (LiteralIn 1024) (λ z a. (a.0, omega (arith, a.1, w.formed.few))) (condition_at p.conditions (symbol_row p.symbols i))
+              (span_at (λ (j : ℕ). symbol_at p.text p.conditions (symbol_row p.symbols j)) (λ (s : Symbol). All (LiteralIn p.counts.atoms) s.condition) 0 p.counts.symbols
               w.named.symbols i (omega arith) (omega arith));
         }

@@ -2,10 +2,11 @@
 -- Assumes nothing: these are definitions.
 use Rattle.std.specs.Prelude.{◌≡◌, Bool, true, false, List, [], ℕ, ◌+◌, ltb, ℤ, length, take, Option, Some, None, Result, Ok, Err, IsSomeAnd}
 use Rattle.std.specs.Borrow.{Bor}
+use Rattle.asp.specs.declared.symbols.SymbolRow.{SymbolRow}
 use Rattle.asp.specs.Sets.{Set, pick}
 use Rattle.asp.specs.Program.{Program}
 use Rattle.asp.specs.Stable.{shown}
-use Rattle.asp.specs.Tables.{span, Row}
+use Rattle.asp.specs.Tables.{span}
 use Rattle.aspif_lines.specs.Text.{Answer, accepted, refused}
 use Rattle.aspif_lines.specs.Seen.{bytes_at}
 use Rattle.aspif.specs.Store.{stored_program, stored_text, WellFormed}
@@ -232,8 +233,8 @@ model_call (Some l) b =
 abbrev pub has_symbol : Loaded → ℕ → Bool
 has_symbol l i = ltb i l.stored.counts.symbols
 
-abbrev pub name_of : List ℕ → Row → List ℕ
-name_of text r = bytes_at text r.a r.b
+abbrev pub name_of : List ℕ → SymbolRow → List ℕ
+name_of text r = bytes_at text r.name r.length
 
 abbrev pub name_call : Holding → ℕ → List ℕ → Fills
 name_call None i b = unfilled 6 None b

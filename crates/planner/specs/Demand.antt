@@ -2,8 +2,9 @@
 use Rattle.std.specs.Prelude.{◌≡◌, false, List, [], ◌∷◌, ℕ, zero, suc, ◌+◌, ◌*◌, ◌^◌, ◌≤◌, ◌<◌, min, ℤ, pos, length, get_or, ◌<ℤ◌, Option, Some, None, IsSome, IsNone}
 use Rattle.std.specs.Option.{ForSome}
 use Rattle.std.specs.Int.Signed.{lt_z}
+use Rattle.asp.specs.declared.entries.Entry.{Entry}
 use Rattle.asp.specs.Sets.{Set}
-use Rattle.asp.specs.Program.{Program, Entry, Symbol, All, atoms}
+use Rattle.asp.specs.Program.{Program, Symbol, All, atoms}
 use Rattle.asp.specs.Stable.{Stable, shown}
 use Rattle.asp.specs.Cost.{levels, weight, W, costs, starts, NoDearer}
 use Rattle.aspif_lines.specs.Text.{accepted, text_of}

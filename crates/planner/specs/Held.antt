@@ -1,7 +1,7 @@
 -- What a service holds: a program with its optimization, or nothing. Assumes nothing: these are definitions.
 use Rattle.std.specs.Prelude.{Option, Some, None, ℕ, take}
 use Rattle.asp.specs.Program.{Symbol}
-use Rattle.asp.specs.Tables.{row_at, symbol_at}
+use Rattle.asp.specs.Tables.{symbol_row, symbol_at}
 use Rattle.aspif_tables.specs.declared.table.Stored.{Stored}
 use Rattle.advancing.specs.declared.state.Phase.{Phase}
 use Rattle.advancing.specs.declared.state.Phase.TheVariants.{First, Level, Optimum, Incoherent, Full}
@@ -32,7 +32,7 @@ fresh_service = None
 abbrev pub source_of : Stored → Source
 source_of p =
     source p.counts.atoms p.pool p.rules p.counts.rules
-    (level_tables (take p.counts.levels p.levels) p.priorities p.literals p.weights p.counts.entries)
+    (level_tables (take p.counts.levels p.levels) (take p.counts.entries p.entries))
 
 -- what is made once for the tables: it makes an advance fast, and no answer depends on how it lies
 abbrev pub PreparedFor : Stored → Preparation → Type 0
@@ -40,7 +40,7 @@ PreparedFor p ix = Prepared (source_of p) ix.conditions ix.heads ix.tried
 
 -- the symbol at a position
 abbrev pub symbol_of : Stored → ℕ → Symbol
-symbol_of p i = symbol_at p.text p.conditions (row_at p.symbols i)
+symbol_of p i = symbol_at p.text p.conditions (symbol_row p.symbols i)
 
 -- the status
 abbrev pub status_of : Phase → Status

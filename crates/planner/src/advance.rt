@@ -5,6 +5,7 @@ ghost use Rattle.planner.specs.Sound.{Sound};
 ghost use Rattle.planner.specs.Calls.{outcome, says, moved_to, advance_call, count_of, made, ran, run_call};
 
 use crate::service::{Loaded, Refusal, Service, Status};
+use asp::cost::Objective;
 
 // How many advances were made, and the status after them.
 #[derive(Clone, Copy, PartialEq, Eq, Debug)]
@@ -20,16 +21,16 @@ impl Loaded {
         ensures count { result ≡ count_of (made self.old budget) (status_of (ran self.old budget).phase) }
     {
         let counts = self.stored.counts;
+        let objective = Objective {
+            levels: &self.stored.levels[..counts.levels],
+            entries: &self.stored.entries[..counts.entries],
+        };
         let after = optimizer::run::run(
             counts.atoms,
             &self.stored.pool,
             &self.stored.rules,
             counts.rules,
-            &self.stored.levels[..counts.levels],
-            &self.stored.priorities,
-            &self.stored.literals,
-            &self.stored.weights,
-            counts.entries,
+            &objective,
             &self.prepared.conditions.starts,
             &self.prepared.conditions.rules,
             &self.prepared.heads.starts,

@@ -4,6 +4,7 @@ ghost use Rattle.planner.specs.Calls.{outcome, says_load, AfterLoad};
 
 use crate::service::{Loaded, Service};
 pub use aspif::text::RefusedAt;
+use asp::cost::Objective;
 
 impl Service {
     // "accepted, the service is as a fresh one given it, with status running"; refused, it is as before.
@@ -13,25 +14,18 @@ impl Service {
     {
         let stored = aspif::text::load(text)?;
         let counts = stored.counts;
-        let levels = &stored.levels[..counts.levels];
+        let objective = Objective {
+            levels: &stored.levels[..counts.levels],
+            entries: &stored.entries[..counts.entries],
+        };
         let prepared = optimizer::prepare::prepare(
             counts.atoms,
             &stored.pool,
             &stored.rules,
             counts.rules,
-            levels,
-            &stored.priorities,
-            &stored.literals,
-            &stored.weights,
-            counts.entries,
+            &objective,
         );
-        let search = optimizer::run::fresh_for(
-            levels,
-            &stored.priorities,
-            &stored.literals,
-            &stored.weights,
-            counts.entries,
-        );
+        let search = optimizer::run::fresh_for(&objective);
         self.held = Some(Loaded {
             stored,
             prepared,

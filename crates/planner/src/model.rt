@@ -1,17 +1,18 @@
 // The best model.
-ghost use Rattle.std.specs.Prelude.{◌≡◌, ◌≤◌, ◌<◌, length};
+ghost use Rattle.std.specs.Prelude.{◌≡◌, ◌≤◌};
 ghost use Rattle.asp.specs.Sets.{set_of};
 ghost use Rattle.planner.specs.Calls.{fills, filling, filled_with, byte_of, model_bytes, says, model_call};
 
 use crate::look::has_model;
 use crate::service::{Refusal, Service};
+use asp::atoms::AtomSet;
 
 // "1 for an atom in it and 0 for another"
-fn byte_of(best: &[u8], a: usize) -> u8
-    requires { a < length best.now }
-    ensures { result ≡ byte_of (set_of best.now) a }
+fn byte_of(best: AtomSet<'_>, a: usize) -> u8
+    requires { a ≤ 1024 }
+    ensures { result ≡ byte_of (set_of best.entry.bytes.now) a }
 {
-    u8::from(asp::literal::has(best, a))
+    u8::from(best.has(a))
 }
 
 // A set of atoms 1 to n at the front of the bytes.
@@ -23,7 +24,7 @@ fn fill_model(best: &[u8; 1025], n: usize, bytes: &mut [u8]) -> Result<usize, Re
         return Err(Refusal::Short { needed: n });
     }
     for i in 0..n {
-        bytes[i] = byte_of(best, i + 1);
+        bytes[i] = byte_of(AtomSet { bytes: best }, i + 1);
     }
     Ok(n)
 }

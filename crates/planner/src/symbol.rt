@@ -1,19 +1,20 @@
 // Symbols, by their position from 0: the name, and whether it is shown.
-ghost use Rattle.std.specs.Prelude.{◌≡◌, ◌+◌, ◌*◌, ◌≤◌, length};
-ghost use Rattle.asp.specs.Tables.{row_at};
+ghost use Rattle.std.specs.Prelude.{◌≡◌, ◌+◌, ◌≤◌, length};
 ghost use Rattle.planner.specs.Calls.{fills, filling, filled_with, says, name_of, name_call, outcome, shown_call};
 
 use crate::fill::written;
 use crate::look::has_model;
 use crate::service::{Refusal, Service};
+use asp::atoms::AtomSet;
+use asp::symbols::{SymbolRow, is_shown};
 
-// The name of the symbol at a place of the table, at the front of the bytes.
-fn fill_name(text: &[u8], symbols: &[u16], i: usize, bytes: &mut [u8]) -> Result<usize, Refusal>
-    requires { (i * 4 + 4 ≤ length symbols.now) × ((row_at symbols.now i).a + (row_at symbols.now i).b ≤ length text.now) }
-    ensures { filling (says result) bytes.new ≡ filled_with (name_of text.now (row_at symbols.now i)) bytes.old }
+// The name of the symbol of a row, at the front of the bytes.
+fn fill_name(text: &[u8], row: SymbolRow, bytes: &mut [u8]) -> Result<usize, Refusal>
+    requires { row.name + row.length ≤ length text.now }
+    ensures { filling (says result) bytes.new ≡ filled_with (name_of text.now row) bytes.old }
 {
-    let first = usize::from(symbols[i * 4]);
-    let length = usize::from(symbols[i * 4 + 1]);
+    let first = usize::from(row.name);
+    let length = usize::from(row.length);
     written(aspif::write::write(&text[first..], length, bytes))
 }
 
@@ -28,7 +29,7 @@ impl Service {
         if l.stored.counts.symbols <= i {
             return Err(Refusal::NoSymbol);
         }
-        fill_name(&l.stored.text, &l.stored.symbols, i, bytes)
+        fill_name(&l.stored.text, l.stored.symbols[i], bytes)
     }
 
     // "in a call of its own, whether that symbol is shown"
@@ -44,11 +45,9 @@ impl Service {
         if !has_model(l.search.phase) {
             return Err(Refusal::NoModel);
         }
-        Ok(asp::cost::is_shown(
-            &l.stored.conditions,
-            &l.stored.symbols,
-            i,
-            &l.search.work.best,
-        ))
+        let best = AtomSet {
+            bytes: &l.search.work.best,
+        };
+        Ok(is_shown(&l.stored.conditions, l.stored.symbols[i], best))
     }
 }

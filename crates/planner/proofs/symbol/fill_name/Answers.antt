@@ -3,5 +3,5 @@ use Rattle.planner.proofs.symbol.fill_name.Goals as goal
 
 pub returns : goal.returns
 returns c =
-    name_fills c.args.text.now c.args.symbols.now c.args.i c.args.bytes.now c.from-first.ensures c.from-length.ensures (all_from c.args.text.now c.from-first.result)
+    name_fills c.args.text.now c.args.row c.args.bytes.now c.from-first.ensures c.from-length.ensures (all_from c.args.text.now c.from-first.result)
     (written_fills _ c.from-length.result c.args.bytes.now _ c.written.ensures c.write.ensures.0 c.write.ensures.1)

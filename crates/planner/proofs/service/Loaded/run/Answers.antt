@@ -1,5 +1,5 @@
 use Rattle.std.proofs.Common.{arith}
-use Rattle.planner.proofs.Known.{known_levels, known_reached, known_prepared}
+use Rattle.planner.proofs.Known.{known_levels, known_entries, known_source, known_reached, known_prepared}
 use Rattle.planner.proofs.service.Loaded.run.Goals as goal
 
 pub shared_ref_as_front-run : goal.shared_ref_as_front-run
