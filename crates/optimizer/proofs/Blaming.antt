@@ -36,22 +36,22 @@ place_room from core p f e q = f (sym e ∙ q)
 
 -- ---- looking a place up
 
-pub record Among (ps : List ℕ) (from p i : ℕ) : Type 0 where
-  pub rest : member p (drop i ps) ≡ member p (drop from ps)
+pub record Among (ps : List ℕ) (p i : ℕ) : Type 0 where
+  pub rest : member p (drop i ps) ≡ member p ps
 
-pub among_start : (ps : List ℕ) (from p : ℕ) → Among ps from p from
-among_start ps from p = record { rest = refl }
+pub among_start : (ps : List ℕ) (p : ℕ) → Among ps p 0
+among_start ps p = record { rest = refl }
 
-module _ {ps : List ℕ} {from p i : ℕ} (a : Among ps from p i) where
-  pub among_here : i < length ps → {q : ℕ} → q ≡ get_or ps i 0 → q ≡ p → true ≡ member p (drop from ps)
+module _ {ps : List ℕ} {p i : ℕ} (a : Among ps p i) where
+  pub among_here : i < length ps → {q : ℕ} → q ≡ get_or ps i 0 → q ≡ p → true ≡ member p ps
   unfolding member
   among_here h eq e = rw (drop-cons ps i 0 h, eq-eqb p (get_or ps i 0) (sym e ∙ eq)) at a.rest
 
-  pub among_next : i < length ps → {q : ℕ} → q ≡ get_or ps i 0 → (q ≡ p → ⊥) → Among ps from p (i + 1)
+  pub among_next : i < length ps → {q : ℕ} → q ≡ get_or ps i 0 → (q ≡ p → ⊥) → Among ps p (i + 1)
   unfolding member
   among_next h eq f = record { rest = rw add-one (rw (drop-cons ps i 0 h, ne_eqb p (get_or ps i 0) (λ e. f (eq ∙ sym e))) at a.rest) }
 
-  pub among_done : length ps ≤ i → false ≡ member p (drop from ps)
+  pub among_done : length ps ≤ i → false ≡ member p ps
   unfolding member
   among_done h = rw (drop_of_length-le ps h) at a.rest
 

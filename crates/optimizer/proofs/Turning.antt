@@ -123,11 +123,11 @@ module _ {S : Source} {q : QueryTables} {budget : ℕ} {t₀ : Places} {b₀ : B
       let u : turns_of S q (budget - made) t b ≡ turns (turned x t₁ b₁) 1 = more h ∙ rw (← e, ← f, p) in
       ap (plus made) (sym u) ∙ k.rest
 
-  pub turns_done : budget ≤ made → turns (turned Going t b) made ≡ turns_of S q budget t₀ b₀
+  pub turns_done : budget ≤ made → turns (turned Going t b) budget ≡ turns_of S q budget t₀ b₀
   unfolding turns_of
   turns_done h =
       let e : budget - made ≡ 0 = omega arith in
-      let z : made + 0 ≡ made = omega arith in
+      let z : made + 0 ≡ budget = omega (arith, k.below) in
       rw (e, z) at k.rest
 
 -- the loop's state with the numbers beside it

@@ -40,16 +40,14 @@ pub fn blame_entry(
     add(core, from, places[i])
 }
 
-// Whether a place is among those from `from` on.
-fn is_among(places: &[u16], from: usize, p: usize) -> bool
-    ensures { result ≡ member p (drop from places.now) }
+// Whether a place is one of these.
+fn is_among(places: &[u16], p: usize) -> bool
+    ensures { result ≡ member p places.now }
 {
-    let mut i = from;
-    while i < places.len() {
-        if usize::from(places[i]) == p {
+    for q in places {
+        if usize::from(*q) == p {
             return true;
         }
-        i += 1;
     }
     false
 }
@@ -69,18 +67,9 @@ fn flag(places: &[u16], p: usize, flags: &mut [u8; 4096])
     requires { (length places.now ≤ 4096) × (length flags.old ≡ 4096) }
     ensures { flags.new ≡ flagged p 0 places.now flags.old }
 {
-    let mut i: usize = 0;
-    while i < places.len() {
-        flag_at(flags, i, usize::from(places[i]), p);
-        i += 1;
+    for (i, q) in places.iter().enumerate() {
+        flag_at(flags, i, usize::from(*q), p);
     }
-}
-
-fn narrow(p: usize) -> u16
-    requires { p < 4096 }
-    ensures { result ≡ p }
-{
-    p as u16
 }
 
 // Any soft literal, by its place.
@@ -94,9 +83,9 @@ pub fn blame_place(
     requires { (p < 4096) × (from ≤ 4096) × (length places.now ≤ 4096) × (length flags.old ≡ 4096) × (length core.old ≡ 4096) × ((member p (drop from core.old) ≡ false) → 1 ≤ from) }
     ensures { blame_tables flags.new core.new result ≡ blame_place places.now p (blame_tables flags.old core.old from) }
 {
-    if is_among(core, from, p) {
+    if is_among(blamed(core, from), p) {
         return from;
     }
     flag(places, p, flags);
-    add(core, from, narrow(p))
+    add(core, from, p as u16)
 }

@@ -32,12 +32,12 @@ fn figures_of(phase: Phase, opens: bool, w: Work) -> Ending
     let uppers = w.uppers;
     let best = w.best;
     Ending {
-        phase: phase,
-        opens: opens,
+        phase,
+        opens,
         level: w.level,
         stratum: w.stratum,
-        uppers: uppers,
-        best: best,
+        uppers,
+        best,
     }
 }
 
@@ -54,14 +54,12 @@ fn next_level<'a>(lowers: &'a [i64; 8], uppers: &'a [i64; 8], j: usize, k: usize
     requires { (j ≤ k) × (k ≤ 8) × (length lowers.now ≡ 8) × (length uppers.now ≡ 8) }
     ensures { (result ≡ next_from lowers.now uppers.now j (k - j)) × (result ≤ k) }
 {
-    let mut i = j;
-    while i < k {
+    for i in j..k {
         if !bounds_meet(lowers, uppers, i) {
             return i;
         }
-        i += 1;
     }
-    i
+    k
 }
 
 // The levels from place j on; those that the best model settles where they start are passed over. After the last, the optimum.

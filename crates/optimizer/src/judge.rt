@@ -44,12 +44,10 @@ pub fn is_settled<'a>(
     requires { (k ≤ length objective.now.levels.now) × (k ≤ 8) × EntriesFormed objective.now.entries.now × (length value.now ≡ 1025) × (length lowers.now ≡ 8) }
     ensures { result ≡ settled_from (λ j. cost (set_of value.now) (level (get_or objective.now.levels.now j (pos 0)) objective.now.entries.now)) lowers.now 0 k }
 {
-    let mut l: usize = 0;
-    while l < k {
+    for l in 0..k {
         if !is_settled_at(objective, l, value, lowers) {
             return false;
         }
-        l += 1;
     }
     true
 }

@@ -37,9 +37,9 @@ pub fn prepare<'a>(
         *objective,
     );
     Preparation {
-        conditions: conditions,
-        heads: heads,
-        tried: tried,
+        conditions,
+        heads,
+        tried,
     }
 }
 

@@ -170,8 +170,5 @@ pub fn run_query<'a>(
         headstarts, headlists, tried, lits, marks, value, flags, core, len, from, budget,
     );
     let below = query::next_stratum(cores.softs, w.stratum);
-    Asked {
-        steps: steps,
-        below: below,
-    }
+    Asked { steps, below }
 }

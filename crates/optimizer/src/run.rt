@@ -51,22 +51,18 @@ fn stopped(
 {
     Advanced {
         search: Search {
-            phase: phase,
-            advances: advances,
+            phase,
+            advances,
             trail: Places {
-                lits: lits,
-                marks: marks,
-                value: value,
-                len: len,
+                lits,
+                marks,
+                value,
+                len,
             },
-            blame: Blame {
-                flags: flags,
-                core: core,
-                from: from,
-            },
-            work: work,
+            blame: Blame { flags, core, from },
+            work,
         },
-        made: made,
+        made,
     }
 }
 
@@ -203,7 +199,7 @@ fn fresh_over(lowers: [i64; 8]) -> Search
             level: 0,
             tables: LevelTables::empty(),
             stratum: 0,
-            lowers: lowers,
+            lowers,
             uppers: [0; 8],
             best: [0; 1025],
         },

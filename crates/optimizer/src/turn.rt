@@ -42,13 +42,13 @@ fn backed(k: usize, from: usize) -> Turning
         return Turning {
             turn: Turn::Without,
             len: k,
-            from: from,
+            from,
         };
     }
     Turning {
         turn: Turn::Going,
         len: k,
-        from: from,
+        from,
     }
 }
 
@@ -108,8 +108,8 @@ fn judged<'a>(
         Judgement::Wanted => Tracked {
             turning: Turning {
                 turn: Turn::Model,
-                len: len,
-                from: from,
+                len,
+                from,
             },
             marks: m,
         },
@@ -219,7 +219,7 @@ pub fn turn<'a>(
             turning: Turning {
                 turn: Turn::Going,
                 len: k,
-                from: from,
+                from,
             },
             marks: q,
         },
@@ -276,19 +276,17 @@ pub fn turns<'a>(
     let mut len = start;
     let mut from = first;
     let mut at = m;
-    let mut made: u32 = 0;
-    while made < budget {
+    for made in 0..budget {
         let x = turn(
             n, pool, rows, rulecount, objective, level, lowers, tried, wished, spots, assumed,
             cores, starts, lists, headstarts, headlists, lits, marks, value, key, flags, core, len,
             from, at,
         );
         let r = x.turning;
-        made += 1;
         if !is_going(r) {
             return Steps {
                 turning: r,
-                made: made,
+                made: made + 1,
             };
         }
         len = r.len;
@@ -298,10 +296,10 @@ pub fn turns<'a>(
     Steps {
         turning: Turning {
             turn: Turn::Going,
-            len: len,
-            from: from,
+            len,
+            from,
         },
-        made: made,
+        made: budget,
     }
 }
 

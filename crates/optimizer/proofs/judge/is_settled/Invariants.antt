@@ -1,4 +1,3 @@
-use Prim.Native.Nat.{◌-◌}
 use lib.IntN.{pos}
 use lib.ListN.{get_or}
 use Rattle.asp.specs.Sets.{set_of}
@@ -8,6 +7,3 @@ use Rattle.optimizer.proofs.judge.is_settled.Given as goal
 
 abbrev pub invariant-loop-l : goal.invariant-loop-l
 invariant-loop-l at = Settling (λ j. cost (set_of at.value) (level (get_or at.objective.levels.now j (pos 0)) at.objective.entries.now)) at.lowers at.k at.l
-
-abbrev pub decreases-loop-l : goal.decreases-loop-l
-decreases-loop-l at = at.k - at.l

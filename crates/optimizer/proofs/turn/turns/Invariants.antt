@@ -1,4 +1,3 @@
-use Prim.Native.Nat.{◌-◌}
 use Rattle.search.specs.Places.{places}
 use Rattle.search.specs.Scan.{rules}
 use Rattle.counting.specs.Counters.{index, counters}
@@ -12,6 +11,3 @@ abbrev pub invariant-loop-made : goal.invariant-loop-made
 invariant-loop-made l = TrackedOn (rules l.pool l.rows l.rulecount) (index l.starts l.lists) (index l.headstarts l.headlists) l.value (counters l.key l.at) (Turned-on (source l.n l.pool l.rows l.rulecount (levels_lent l.objective))
     (query_tables l.level l.lowers l.wished l.spots l.assumed (tables_of l.cores)) l.budget (places l.initial.lits l.initial.marks l.initial.value l.start) (blame_tables l.initial.flags l.initial.core l.first) (places l.lits l.marks l.value l.len)
     (blame_tables l.flags l.core l.from) l.made)
-
-abbrev pub decreases-loop-made : goal.decreases-loop-made
-decreases-loop-made l = l.budget - l.made
