@@ -2,22 +2,25 @@
 use mathlib.Core.Path.{◌≡◌, refl, subst}
 use Rattle.std.proofs.Math.Logic.{∥∥₁_elim, ∥∥₁_prop}
 use Rattle.std.specs.Prelude.{Some}
-use mathlib.Core.List.{List}
 use Prim.Native.Nat.{ℕ}
-use Rattle.asp.specs.Program.{Program}
+use Rattle.aspif.specs.Store.{WellFormed}
+use Rattle.aspif_tables.specs.declared.table.Stored.{Stored}
+use Rattle.advancing.specs.declared.state.Search.{Search}
+use Rattle.advancing.specs.State.{fresh_for}
 use Rattle.advancing.proofs.Reached.{reached_fresh, reached_more}
+use Rattle.optimizer.specs.declared.prepare.Preparation.{Preparation}
 use Rattle.planner.specs.declared.service.Loaded.{Loaded}
-use Rattle.planner.specs.Held.{Holding}
+use Rattle.planner.specs.Held.{Holding, loaded, holding, source_of, PreparedFor}
 use Rattle.planner.specs.Sound.{Sound}
-use Rattle.planner.specs.Calls.{FreshWith, moved_to, ran}
+use Rattle.planner.specs.Calls.{moved_to, ran}
 use Rattle.planner.proofs.Link.{formed_source}
 
-pub sound_load : {P : Program} {t : List ℕ} {l : Loaded} → FreshWith P t l → Sound l
-sound_load {l = l} f = record { formed = f.tables.formed; prepared = f.prepared; reached = reached_fresh (formed_source l.stored f.tables.formed) f.search }
-
 -- what a load leaves
-pub loaded_sound : {P : Program} {t : List ℕ} {l m : Loaded} → FreshWith P t l → ◌≡◌ {A = Holding} (Some l) (Some m) → ∥ Sound m ∥₁
-loaded_sound {l = l} {m = m} f e = let d : l ≡ m = cc in subst (λ (x : Loaded). ∥ Sound x ∥₁) d ∣ sound_load f ∣₁
+pub loaded_sound : (p : Stored) → WellFormed p → {ix : Preparation} → PreparedFor p ix → {q : Search} → q ≡ fresh_for (source_of p).levels → {x : Loaded} → holding p ix q ≡ Some x → ∥ Sound x ∥₁
+loaded_sound p w {ix} o {q} d {x} h =
+    let s : Sound (loaded p ix q) = record { formed = w; prepared = o; reached = reached_fresh (formed_source p w) d } in
+    let k : loaded p ix q ≡ x = cc in
+    subst (λ (y : Loaded). ∥ Sound y ∥₁) k ∣ s ∣₁
 
 -- an advance is a run of one
 pub sound_run : (b : ℕ) {l : Loaded} → Sound l → Sound (moved_to l (ran l b))

@@ -45,7 +45,7 @@ module _ (p : Stored) (w : WellFormed p) where
   pub levels_many : many (source_of p).levels ≡ p.counts.levels
   levels_many = length-take-le p.counts.levels p.levels levels_reach
 
-  formed_levels : FormedLevels (source_of p).levels
+  pub formed_levels : FormedLevels (source_of p).levels
   formed_levels =
       record {
         entries =

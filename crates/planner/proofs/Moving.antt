@@ -1,4 +1,4 @@
--- Run, look and write, from what their callees ensure. Assumes nothing.
+-- Advance, look and write, from what their callees ensure. Assumes nothing.
 use mathlib.Core.Path.{◌≡◌, sym, ap, ap₂, ◌∙◌}
 use mathlib.Core.List.{List}
 use Prim.Native.Nat.{ℕ}

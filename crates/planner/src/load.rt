@@ -7,6 +7,7 @@ pub use aspif::text::RefusedAt;
 
 impl Service {
     // "accepted, the service is as a fresh one given it, with status running"; refused, it is as before.
+    #[tactic(auto, using(crate::proofs::Link::formed_source, crate::proofs::Link::formed_levels))]
     pub fn load(&mut self, text: &[u8]) -> Result<(), RefusedAt>
         ensures { AfterLoad (text_of text.now) self.old.held (outcome (says_load result) self.new.held) }
     {
