@@ -15,7 +15,7 @@ pub struct Loaded {
 }
 
 // A program with its optimization, if one is loaded. It is what calls from a fresh service leave.
-#[derive(Drop)]
+#[derive(Clone, Copy)]
 pub struct Service {
     pub held: Option<Loaded>,
     pub ghost sound: { ForSome held (λ l. ∥ Sound l ∥₁) },
