@@ -8,10 +8,6 @@ use native.Mathlib.Omega.{arith}
 use lib.Dec.{eqb}
 use lib.IntN.{ℤ}
 use lib.ListN.{length}
-use Rattle.indexing.specs.Leaf.{Equipped}
-use Rattle.search.specs.Scan.{Rules}
-use Rattle.counting.specs.declared.counters.Index.{Index}
-use Rattle.counting.specs.Counters.{Counters}
 use Rattle.asp.specs.Sets.{Set, set_of, pick}
 use Rattle.search.specs.declared.trail.Places.{Places}
 use Rattle.search.specs.Places.{places, SoundTrail, back_of}
@@ -24,22 +20,19 @@ use Rattle.advancing.specs.declared.state.Turn.{Turn}
 use Rattle.advancing.specs.declared.state.Turn.TheVariants.{Going, Without, Model}
 use Rattle.advancing.specs.declared.state.Judgement.{Judgement}
 use Rattle.advancing.specs.declared.state.Judgement.TheVariants.{Wanted, Dead, Violated}
-use Rattle.optimizer.specs.declared.turn.Turning.{Turning}
 use Rattle.advancing.specs.Source.{Source, rule_tables, Tries}
 use Rattle.advancing.specs.Turn.{QueryTables, blame_tables, blamed_of, blame_entry, blame_place, judge_full, Turned, turned, backed, judged_turn, turn_by, assumed_by, turn_of, is_going, Turns, turns, one_more, go_on, turns_of}
 use Rattle.advancing.specs.Ready.{ReadyQuery, GoodBlame}
-use Rattle.optimizer.specs.Turning.{backed_to, turning}
+use Rattle.optimizer.specs.Turning.{backed_turn}
 use Rattle.advancing.proofs.Stepping.{first_is, turn_sound, turn_blame}
 
 -- ---- the code's answers
 
--- after a cut to length k
-pub backed_is : (ls : List ℤ) (ms v : List ℕ) (k from : ℕ) (fs core : List ℕ) {r : Turning} → r ≡ backed_to k from → {t₁ : Places} → places ls ms v k ≡ t₁
-    → turned r.turn (places ls ms v r.len) (blame_tables fs core r.from) ≡ backed t₁ (blame_tables fs core from)
-backed_is ls ms v k from fs core e f = rw (e, ← f) (go (eqb k 0))
+-- after a cut
+pub backed_is : {r : Turn} {t : Places} {b : Blame} → r ≡ backed_turn t.len → turned r t b ≡ backed t b
+backed_is {t = t} {b = b} e = rw e (go (eqb t.len 0))
   where
-    go : (x : Bool) → turned (pick x (turning Without k from) (turning Going k from)).turn (places ls ms v (pick x (turning Without k from) (turning Going k from)).len) (blame_tables fs core (pick x (turning Without k from) (turning Going k from)).from)
-        ≡ pick x (turned Without (places ls ms v k) (blame_tables fs core from)) (turned Going (places ls ms v k) (blame_tables fs core from))
+    go : (x : Bool) → turned (pick x Without Going) t b ≡ pick x (turned Without t b) (turned Going t b)
     go true = refl
     go false = refl
 
@@ -131,9 +124,9 @@ module _ {S : Source} {q : QueryTables} {budget : ℕ} {t₀ : Places} {b₀ : B
       rw (e, z) at k.rest
 
 -- the loop's state with the numbers beside it
-pub record TrackedOn (g : Rules) (o h : Index) (v : List ℕ) (y : Counters) (On : Type 0) : Type 0 where
+pub record TrackedOn (Equipped : Type 0) (On : Type 0) : Type 0 where
   pub on : On
-  pub tallied : Equipped g o h v y
+  pub tallied : Equipped
 
-pub tracked : {g : Rules} {o h : Index} {v : List ℕ} {y : Counters} {On : Type 0} → On → Equipped g o h v y → TrackedOn g o h v y On
+pub tracked : {Equipped On : Type 0} → On → Equipped → TrackedOn Equipped On
 tracked a b = record { on = a; tallied = b }

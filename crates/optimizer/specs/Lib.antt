@@ -1,3 +1,4 @@
 pub mod Turning
 pub mod Ending
 pub mod Prepare
+pub mod Lent

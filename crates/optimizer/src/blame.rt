@@ -1,43 +1,39 @@
 // What a query has blamed: places of soft literals, newest first, at the end of a table; and a flag for each assumed soft literal of an entry.
-ghost use Rattle.std.specs.Prelude.{◌≡◌, false, ◌+◌, ◌-◌, ◌≤◌, ◌<◌, length, get_or, set, drop, eqb};
+ghost use Rattle.std.specs.Prelude.{◌≡◌, false, ◌-◌, ◌≤◌, ◌<◌, length, get_or, set, eqb};
 ghost use Rattle.asp.specs.Sets.{pick};
 ghost use Rattle.asp.specs.Stable.{member};
-ghost use Rattle.advancing.specs.Turn.{blame_tables, blame_entry, blame_place, flagged};
+ghost use Rattle.advancing.specs.Turn.{blame_tables, blamed_of, blame_entry, blame_place, flagged};
+
+use advancing::state::Blame;
 
 // What is blamed, newest first.
-pub fn blamed(core: &[u16], from: usize) -> &[u16]
-    requires { from ≤ length core.now }
-    ensures { result.now ≡ drop from core.now }
+pub fn blamed(b: &Blame) -> &[u16]
+    requires { b.now.from ≤ 4096 }
+    ensures { result.now ≡ blamed_of b.now }
 {
-    &core[from..]
+    &b.core[b.from..]
 }
 
 // One more place, before the others.
-fn add(core: &mut [u16], from: usize, p: u16) -> usize
-    requires { (1 ≤ from) × (from ≤ 4096) × (length core.old ≡ 4096) }
-    ensures { (result ≡ from - 1) × (core.new ≡ set core.old (from - 1) p) }
+fn add(b: &mut Blame, p: u16)
+    requires { (1 ≤ b.old.from) × (b.old.from ≤ 4096) }
+    ensures { b.new ≡ blame_tables b.old.flags (set b.old.core (b.old.from - 1) p) (b.old.from - 1) }
 {
-    let k = from - 1;
-    core[k] = p;
-    k
+    b.from -= 1;
+    b.core[b.from] = p;
 }
 
 // The soft literal of an entry that is at place i among those that the query assumes.
-pub fn blame_entry(
-    places: &[u16],
-    i: usize,
-    flags: &mut [u8; 4096],
-    core: &mut [u16],
-    from: usize,
-) -> usize
-    requires { (i < length places.now) × (get_or places.now i 0 < 4096) × (i < 4096) × (from ≤ 4096) × (length flags.old ≡ 4096) × (length core.old ≡ 4096) × ((get_or flags.old i 0 ≡ 1 → ⊥) → 1 ≤ from) }
-    ensures { blame_tables flags.new core.new result ≡ blame_entry places.now i (blame_tables flags.old core.old from) }
+pub fn blame_entry(places: &[u16], i: usize, b: &mut Blame)
+    requires place { (i < length places.now) × (i < 4096) × (get_or places.now i 0 < 4096) }
+    requires room { (b.old.from ≤ 4096) × ((get_or b.old.flags i 0 ≡ 1 → ⊥) → 1 ≤ b.old.from) }
+    ensures { b.new ≡ blame_entry places.now i b.old }
 {
-    if flags[i] == 1 {
-        return from;
+    if b.flags[i] == 1 {
+        return;
     }
-    flags[i] = 1;
-    add(core, from, places[i])
+    b.flags[i] = 1;
+    add(b, places[i]);
 }
 
 // Whether a place is one of these.
@@ -73,19 +69,14 @@ fn flag(places: &[u16], p: usize, flags: &mut [u8; 4096])
 }
 
 // Any soft literal, by its place.
-pub fn blame_place(
-    places: &[u16],
-    p: usize,
-    flags: &mut [u8; 4096],
-    core: &mut [u16],
-    from: usize,
-) -> usize
-    requires { (p < 4096) × (from ≤ 4096) × (length places.now ≤ 4096) × (length flags.old ≡ 4096) × (length core.old ≡ 4096) × ((member p (drop from core.old) ≡ false) → 1 ≤ from) }
-    ensures { blame_tables flags.new core.new result ≡ blame_place places.now p (blame_tables flags.old core.old from) }
+pub fn blame_place(places: &[u16], p: usize, b: &mut Blame)
+    requires place { (p < 4096) × (length places.now ≤ 4096) }
+    requires room { (b.old.from ≤ 4096) × (member p (blamed_of b.old) ≡ false → 1 ≤ b.old.from) }
+    ensures { b.new ≡ blame_place places.now p b.old }
 {
-    if is_among(blamed(core, from), p) {
-        return from;
+    if is_among(blamed(b), p) {
+        return;
     }
-    flag(places, p, flags);
-    add(core, from, p as u16)
+    flag(places, p, &mut b.flags);
+    add(b, p as u16);
 }

@@ -2,6 +2,7 @@
 // comes to is found by the figures, and the tables change only if a core is recorded or a level is opened.
 ghost use Rattle.std.specs.Prelude.{◌≡◌, true, ◌+◌, ◌-◌, ◌≤◌, ◌<◌, pos, length, get_or};
 ghost use Rattle.asp.specs.Literal.{same_ℤ};
+ghost use Rattle.asp.specs.Sets.{pick};
 ghost use Rattle.cores.specs.Level.{under, core_fits};
 ghost use Rattle.cores.specs.Tables.{level_of, held_in, FormedTables, Counted};
 ghost use Rattle.advancing.specs.Source.{levels_lent, FormedLevels};
@@ -224,9 +225,9 @@ fn asks_core(phase: Phase, turn: Turn) -> bool
 }
 
 // Whether a core of n members is recorded.
-pub fn records(phase: Phase, turn: Turn, t: LevelTables, n: usize) -> bool
-    requires { phase ≡ Phase.Level → turn ≡ Turn.Without → Counted t n }
-    ensures { result ≡ records_of phase turn t n }
+fn records(phase: Phase, turn: Turn, t: &LevelTables, n: usize) -> bool
+    requires { phase ≡ Phase.Level → turn ≡ Turn.Without → Counted t.now n }
+    ensures { result ≡ records_of phase turn t.now n }
 {
     if asks_core(phase, turn) {
         return t.has_room(n);
@@ -235,31 +236,26 @@ pub fn records(phase: Phase, turn: Turn, t: LevelTables, n: usize) -> bool
 }
 
 // The core is in the tables, and the lower bound with it.
-pub fn recorded<'a>(w: Work, core: &'a [u16]) -> Work
-    requires { (w.level < 8) × ReadyCore w core.now × (core_fits w.tables.count (held_in w.tables) (length core.now) ≡ true) }
-    ensures { result ≡ recorded_work w core.now }
+fn record(w: &mut Work, core: &[u16])
+    requires { (w.old.level < 8) × ReadyCore w.old core.now × (core_fits w.old.tables.count (held_in w.old.tables) (length core.now) ≡ true) }
+    ensures { w.new ≡ recorded_work w.old core.now }
 {
-    let level = w.level;
-    let mut lowers = w.lowers;
-    lowers[level] += i64::from(w.stratum);
-    let mut x = w;
-    x.tables.record(core, w.stratum);
-    x.lowers = lowers;
-    x
+    w.lowers[w.level] += i64::from(w.stratum);
+    w.tables.record(core, w.stratum);
 }
 
-// What stands still after an end, but for a level that is opened.
-pub fn standing(w: Work, e: Ending) -> Work
-    ensures { result ≡ standing_of w e }
+// The core of a query that ended without a model is recorded, unless it passes a limit; whether it is.
+pub fn record_core(phase: Phase, turn: Turn, w: &mut Work, core: &[u16]) -> bool
+    requires level { phase ≡ Phase.Level → w.old.level < 8 }
+    requires ready { phase ≡ Phase.Level → turn ≡ Turn.Without → ReadyCore w.old core.now }
+    ensures recorded { result ≡ records_of phase turn w.old.tables (length core.now) }
+    ensures work { w.new ≡ pick result (recorded_work w.old core.now) w.old }
 {
-    let uppers = e.uppers;
-    let best = e.best;
-    let mut x = w;
-    x.level = e.level;
-    x.stratum = e.stratum;
-    x.uppers = uppers;
-    x.best = best;
-    x
+    let recorded = records(phase, turn, &w.tables, core.len());
+    if recorded {
+        record(w, core);
+    }
+    recorded
 }
 
 // The greatest remaining weight below s; 0 if there is none.
@@ -271,13 +267,24 @@ fn next_stratum(t: &LevelTables, s: u32) -> u32
 }
 
 // The level in work, in emptied tables.
-pub fn begun<'a>(objective: &'a Objective<'a>, w: Work) -> Work
-    requires { FormedLevels (levels_lent objective.now) × (w.level < length objective.now.levels.now) }
-    ensures { result ≡ begun_at (levels_lent objective.now) w w.level }
+fn begin(objective: &Objective<'_>, w: &mut Work)
+    requires { FormedLevels (levels_lent objective.now) × (w.old.level < length objective.now.levels.now) }
+    ensures { w.new ≡ begun_at (levels_lent objective.now) w.old w.old.level }
 {
-    let tables = LevelTables::opened(objective.entries, objective.levels[w.level]);
-    let mut x = w;
-    x.tables = tables;
-    x.stratum = next_stratum(&tables, 1000001);
-    x
+    w.tables = LevelTables::opened(objective.entries, objective.levels[w.level]);
+    w.stratum = next_stratum(&w.tables, 1000001);
+}
+
+// What stands still after an end, with a level that is opened, if one is.
+pub fn place(objective: &Objective<'_>, w: &mut Work, e: &Ending)
+    requires { FormedLevels (levels_lent objective.now) × (e.now.opens ≡ true → e.now.level < length objective.now.levels.now) }
+    ensures { w.new ≡ pick e.now.opens (begun_at (levels_lent objective.now) (standing_of w.old e.now) e.now.level) (standing_of w.old e.now) }
+{
+    w.level = e.level;
+    w.stratum = e.stratum;
+    w.uppers = e.uppers;
+    w.best = e.best;
+    if e.opens {
+        begin(objective, w);
+    }
 }

@@ -3,6 +3,7 @@
 
 pub mod blame;
 pub mod finish;
+pub mod ground;
 pub mod judge;
 pub mod prepare;
 pub mod query;

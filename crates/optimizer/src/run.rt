@@ -1,20 +1,23 @@
 // Advances of an optimization.
-ghost use Rattle.std.specs.Prelude.{◌≡◌, pos, replicate};
-ghost use Rattle.advancing.specs.Source.{levels_lent, source, FormedLevels, Prepared};
-ghost use Rattle.search.specs.Places.{places};
-ghost use Rattle.advancing.specs.Turn.{blame_tables, is_going};
-ghost use Rattle.counting.specs.Counters.{index};
-ghost use Rattle.advancing.specs.State.{search, fresh_blame, fresh_search, fresh_for};
-ghost use Rattle.advancing.specs.Advance.{advance_of};
+ghost use Rattle.std.specs.Prelude.{◌≡◌, ◌≤◌, ◌<◌, length, pos, replicate};
+ghost use Rattle.cores.specs.Level.{under};
+ghost use Rattle.cores.specs.Tables.{level_of};
+ghost use Rattle.advancing.specs.Source.{levels_lent, FormedLevels};
+ghost use Rattle.advancing.specs.Turn.{blamed_of};
+ghost use Rattle.advancing.specs.State.{fresh_blame, fresh_search, fresh_for};
+ghost use Rattle.advancing.specs.Finish.{finish_of};
+ghost use Rattle.advancing.specs.Advance.{ended_query, advance_of};
+ghost use Rattle.advancing.specs.Ready.{ReadyCore};
 ghost use Rattle.advancing.specs.Run.{after_run, Reached, run_of};
+ghost use Rattle.optimizer.specs.Lent.{source_lent};
 
+use crate::ground::Ground;
 use crate::{blame, finish, query, turn};
 use advancing::state;
-use advancing::state::{Blame, Phase, Search, Work};
+use advancing::state::{Blame, Phase, Search, Turn, Work};
 use asp::cost::Objective;
-use asp::rules::Row;
 use cores::level::LevelTables;
-use search::trail::Places;
+use search::trail;
 
 fn fresh_blame() -> Blame
     ensures { result ≡ fresh_blame }
@@ -26,164 +29,59 @@ fn fresh_blame() -> Blame
     }
 }
 
-// An optimization, and how many advances were made in it.
-#[derive(Clone, Copy)]
-pub struct Advanced {
-    pub search: Search,
-    pub made: u32,
+// A query has ended: its core is recorded or not, the figures are those of the end, a level is opened or not. "An ended question empties the path, and the same advance
+// prepares the next."
+fn end_query(objective: &Objective<'_>, s: &mut Search, turn: Turn, below: u32)
+    requires levels { FormedLevels (levels_lent objective.now) }
+    requires level { s.old.phase ≡ Phase.Level → s.old.work.level < length objective.now.levels.now }
+    requires blame { s.old.blame.from ≤ 4096 }
+    requires core { s.old.phase ≡ Phase.Level → turn ≡ Turn.Without → ReadyCore s.old.work (blamed_of s.old.blame) }
+    requires below { turn ≡ Turn.Model → below ≡ under s.old.work.stratum (level_of s.old.work.tables).rests }
+    ensures { s.new ≡ ended_query s.old.advances (finish_of (levels_lent objective.now) s.old.phase s.old.work s.old.trail.value (blamed_of s.old.blame) turn) }
+{
+    let recorded = finish::record_core(s.phase, turn, &mut s.work, blame::blamed(&s.blame));
+    let e = finish::finish(
+        objective,
+        s.phase,
+        recorded,
+        s.work,
+        below,
+        s.trail.value,
+        turn,
+    );
+    finish::place(objective, &mut s.work, &e);
+    s.phase = e.phase;
+    s.trail = trail::fresh();
+    s.blame = fresh_blame();
 }
 
-// The optimization as it stands.
-fn stopped(
-    phase: Phase,
-    advances: u64,
-    lits: [i32; 1024],
-    marks: [u8; 1024],
-    value: [u8; 1025],
-    len: usize,
-    flags: [u8; 4096],
-    core: [u16; 4096],
-    from: usize,
-    work: Work,
-    made: u32,
-) -> Advanced
-    ensures { after_run result.search result.made ≡ after_run (search phase advances (places lits marks value len) (blame_tables flags core from) work) made }
+// Advances until the status is not running or `budget` are made: how many were made.
+pub fn run(g: &Ground<'_>, s: &mut Search, budget: u32) -> u32
+    requires { Reached (source_lent g.now) s.old }
+    ensures { after_run s.new result ≡ run_of (source_lent g.now) budget s.old }
 {
-    Advanced {
-        search: Search {
-            phase,
-            advances,
-            trail: Places {
-                lits,
-                marks,
-                value,
-                len,
-            },
-            blame: Blame { flags, core, from },
-            work,
-        },
-        made,
-    }
-}
-
-// Advances until the status is not running or `budget` are made. "An ended question empties the path, and the same advance prepares the next."
-pub fn run<'a>(
-    n: usize,
-    pool: &'a [i32],
-    rows: &'a [Row],
-    rulecount: usize,
-    objective: &'a Objective<'a>,
-    starts: &'a [u16],
-    lists: &'a [u16],
-    headstarts: &'a [u16],
-    headlists: &'a [u16],
-    tried: &'a [u8; 1025],
-    start: Search,
-    budget: u32,
-) -> Advanced
-    requires reached { Reached (source n pool.now rows.now rulecount (levels_lent objective.now)) start }
-    requires prepared { Prepared (source n pool.now rows.now rulecount (levels_lent objective.now)) (index starts.now lists.now) (index headstarts.now headlists.now) tried.now }
-    ensures { after_run result.search result.made ≡ run_of (source n pool.now rows.now rulecount (levels_lent objective.now)) budget start }
-{
-    let mut phase = start.phase;
-    let mut advances = start.advances;
-    let trail = start.trail;
-    let mut lits = trail.lits;
-    let mut marks = trail.marks;
-    let mut value = trail.value;
-    let mut len = trail.len;
-    let blame = start.blame;
-    let mut flags = blame.flags;
-    let mut core = blame.core;
-    let mut from = blame.from;
-    let mut work = start.work;
     let mut made: u32 = 0;
     while made < budget {
-        if !phase.is_running() {
-            return stopped(
-                phase, advances, lits, marks, value, len, flags, core, from, work, made,
-            );
+        if !s.phase.is_running() {
+            return made;
         }
-        let q = query::run_query(
-            n,
-            pool,
-            rows,
-            rulecount,
-            objective,
-            starts,
-            lists,
-            headstarts,
-            headlists,
-            tried,
-            work,
-            &mut lits,
-            &mut marks,
-            &mut value,
-            &mut flags,
-            &mut core,
-            len,
-            from,
-            budget - made,
-        );
-        let s = q.steps;
-        made += s.made;
-        advances = state::counted(advances, s.made);
-        let r = s.turning;
-        len = r.len;
-        from = r.from;
-        let turn = r.turn;
-        if turn::is_going(r) {
-            return stopped(
-                phase, advances, lits, marks, value, len, flags, core, from, work, made,
-            );
+        let asked = query::run_query(g, &s.work, &mut s.blame, &mut s.trail, budget - made);
+        made += asked.made;
+        s.advances = state::counted(s.advances, asked.made);
+        if turn::is_going(asked.turn) {
+            return made;
         }
-        let tables = work.tables;
-        let blamed = blame::blamed(&core, from);
-        let recorded = finish::records(phase, turn, tables, blamed.len());
-        if recorded {
-            work = finish::recorded(work, blamed);
-        }
-        let e = finish::finish(objective, phase, recorded, work, q.below, value, turn);
-        phase = e.phase;
-        work = finish::standing(work, e);
-        if e.opens {
-            work = finish::begun(objective, work);
-        }
-        lits = [0; 1024];
-        marks = [0; 1024];
-        value = [0; 1025];
-        len = 0;
-        flags = [0; 4096];
-        core = [0; 4096];
-        from = 4096;
+        end_query(&g.objective, s, asked.turn, asked.below);
     }
-    stopped(
-        phase, advances, lits, marks, value, len, flags, core, from, work, made,
-    )
+    made
 }
 
 // One advance. "An advance after the end does nothing and isn't counted."
-pub fn advance<'a>(
-    n: usize,
-    pool: &'a [i32],
-    rows: &'a [Row],
-    rulecount: usize,
-    objective: &'a Objective<'a>,
-    starts: &'a [u16],
-    lists: &'a [u16],
-    headstarts: &'a [u16],
-    headlists: &'a [u16],
-    tried: &'a [u8; 1025],
-    s: Search,
-) -> Search
-    requires reached { Reached (source n pool.now rows.now rulecount (levels_lent objective.now)) s }
-    requires prepared { Prepared (source n pool.now rows.now rulecount (levels_lent objective.now)) (index starts.now lists.now) (index headstarts.now headlists.now) tried.now }
-    ensures { result ≡ advance_of (source n pool.now rows.now rulecount (levels_lent objective.now)) s }
+pub fn advance(g: &Ground<'_>, s: &mut Search)
+    requires { Reached (source_lent g.now) s.old }
+    ensures { s.new ≡ advance_of (source_lent g.now) s.old }
 {
-    let r = run(
-        n, pool, rows, rulecount, objective, starts, lists, headstarts, headlists, tried, s, 1,
-    );
-    r.search
+    run(g, s, 1);
 }
 
 // An optimization before its first advance, over the lower bounds that it starts with.
@@ -193,7 +91,7 @@ fn fresh_over(lowers: [i64; 8]) -> Search
     Search {
         phase: Phase::First,
         advances: 0,
-        trail: search::trail::fresh(),
+        trail: trail::fresh(),
         blame: fresh_blame(),
         work: Work {
             level: 0,

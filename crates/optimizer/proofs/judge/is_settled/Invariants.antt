@@ -6,4 +6,4 @@ use Rattle.optimizer.proofs.Settled.{Settling}
 use Rattle.optimizer.proofs.judge.is_settled.Given as goal
 
 abbrev pub invariant-loop-l : goal.invariant-loop-l
-invariant-loop-l at = Settling (λ j. cost (set_of at.value) (level (get_or at.objective.levels.now j (pos 0)) at.objective.entries.now)) at.lowers at.k at.l
+invariant-loop-l at = Settling (λ j. cost (set_of at.m.bytes.now) (level (get_or at.objective.levels.now j (pos 0)) at.objective.entries.now)) at.lowers at.k at.l
