@@ -7,8 +7,9 @@ use native.Mathlib.Numerals.{add-one}
 use lib.ListN.{length, get_or, take, drop}
 use lib.Seq.{drop-cons}
 use lib.IntN.{pos, nat_abs}
+use Rattle.asp.specs.declared.entries.Entry.{Entry}
 use Rattle.asp.specs.Sets.{In}
-use Rattle.asp.specs.Program.{Entry, All, LiteralIn}
+use Rattle.asp.specs.Program.{All, LiteralIn}
 use Rattle.asp.specs.Tables.{span, entry_at}
 use Rattle.aspif_lines.specs.Seen.{bytes_at}
 use Rattle.aspif.specs.Store.{stored_text, WellFormed}

@@ -7,10 +7,12 @@ use native.Mathlib.Omega.{arith}
 use lib.IntN.{ℤ, pos, nat_abs}
 use lib.ListN.{length, get_or, replicate, length-append, length-replicate}
 use lib.Seq.{get_or-append-add}
+use Rattle.asp.specs.declared.rules.Row.{Row}
+use Rattle.asp.specs.declared.entries.Entry.{Entry}
 use Rattle.asp.specs.Sets.{pick}
 use Rattle.asp.specs.Literal.{one_signed}
-use Rattle.asp.specs.Program.{Weighed, Body, normal, weighted, Head, constraint, plain, choice, Rule, Entry, Symbol, Program, atoms, All, RuleIn, ProgramIn}
-use Rattle.asp.specs.Tables.{span, literals_at, pair_at, pairs_at, named, atoms_at, Row, row_at, head_at, rule_at, RowIn, entry_at, entries_of, symbol_at}
+use Rattle.asp.specs.Program.{Weighed, Body, normal, weighted, Head, constraint, plain, choice, Rule, Symbol, Program, atoms, All, RuleIn, ProgramIn}
+use Rattle.asp.specs.Tables.{span, literals_at, pair_at, pairs_at, named, atoms_at, row_at, head_at, rule_at, RowIn, entry_at, entries_of, symbol_at}
 use Rattle.asp.proofs.Spans.{span_at}
 use Rattle.aspif_lines.specs.Text.{sum, head_size, body_size, rule_size, condition_size, name_size, fits, text_of, accepted}
 use Rattle.aspif_lines.specs.Seen.{body_from, kind_of, bytes_at}

@@ -1,7 +1,8 @@
 -- A text's answer and tables while its lines are read, and the stored program. Assumes nothing: these are definitions.
 use Rattle.std.specs.Prelude.{◌≡◌, List, ℕ, ◌+◌, ◌≤◌, ◌<◌, nat_abs, length, Option, Some, None, Result, Ok, Err}
 use Rattle.std.specs.Borrow.{Bor}
-use Rattle.asp.specs.Program.{Weighed, Body, normal, weighted, Rule, Entry, Program, atoms, All, ProgramIn}
+use Rattle.asp.specs.declared.entries.Entry.{Entry}
+use Rattle.asp.specs.Program.{Weighed, Body, normal, weighted, Rule, Program, atoms, All, ProgramIn}
 use Rattle.asp.specs.Tables.{row_at, program_of, Formed}
 use Rattle.aspif_fields.specs.Refusals.{refusal_number}
 use Rattle.aspif_lines.specs.Text.{sum, rule_size, Answer, accepted, refused, lines, pieces}

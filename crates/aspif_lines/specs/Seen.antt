@@ -1,9 +1,11 @@
 -- What the answers of the code's readers mean. Assumes nothing: these are definitions.
 use Rattle.std.specs.Prelude.{◌≡◌, Bool, true, false, not, List, [], ◌∷◌, map, ℕ, ◌+◌, ◌≤◌, ◌<◌, max, ℤ, pos, nat_abs, length, get_or, Result, IfOk}
+use Rattle.asp.specs.declared.rules.Row.{Row}
+use Rattle.asp.specs.declared.entries.Entry.{Entry}
 use Rattle.asp.specs.Sets.{pick}
 use Rattle.asp.specs.Literal.{one_signed}
-use Rattle.asp.specs.Program.{Body, normal, weighted, Rule, Entry, Symbol, highest, body_atoms, rule_atoms}
-use Rattle.asp.specs.Tables.{span, literals_at, is_choice, is_weighted, is_mixed, pairs_at, rule_at, entry_at, Row, row_at, named}
+use Rattle.asp.specs.Program.{Body, normal, weighted, Rule, Symbol, highest, body_atoms, rule_atoms}
+use Rattle.asp.specs.Tables.{span, literals_at, is_choice, is_weighted, is_mixed, pairs_at, rule_at, entry_at, row_at, named}
 use Rattle.aspif_fields.specs.SeenFields.{read}
 use Rattle.aspif_fields.specs.declared.refusal.Refusal.{Refusal}
 use Rattle.aspif_lines.specs.Text.{member_field, Minimise, pieces}

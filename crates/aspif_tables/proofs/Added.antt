@@ -7,10 +7,12 @@ use Prim.Native.Nat.{ℕ, ◌+◌, ◌<◌, ◌≤◌, max}
 use native.Mathlib.Omega.{arith}
 use lib.IntN.{ℤ, pos, nat_abs}
 use lib.ListN.{length, get_or}
+use Rattle.asp.specs.declared.rules.Row.{Row}
+use Rattle.asp.specs.declared.entries.Entry.{Entry}
 use Rattle.asp.specs.Sets.{pick}
 use Rattle.asp.specs.Literal.{one_signed}
-use Rattle.asp.specs.Program.{choice, Entry, Symbol, highest}
-use Rattle.asp.specs.Tables.{span, literals_at, atoms_at, is_choice, is_weighted, is_mixed, plain_head, pair_at, entry_at, entries_of, Row, row_at, rule_at, rules_of, symbol_at, symbols_of, named}
+use Rattle.asp.specs.Program.{choice, Symbol, highest}
+use Rattle.asp.specs.Tables.{span, literals_at, atoms_at, is_choice, is_weighted, is_mixed, plain_head, pair_at, entry_at, entries_of, row_at, rule_at, rules_of, symbol_at, symbols_of, named}
 use Rattle.aspif_fields.specs.Fields.{got}
 use Rattle.aspif_lines.specs.Text.{rule_line, minimise_line, symbol_line, insert, sum, head_size, body_size, rule_size, condition_size, name_size}
 use Rattle.aspif_lines.specs.Seen.{body_from, rule_row, RuleGood, bytes_at, entries_at, Kept, Pushed}

@@ -7,7 +7,8 @@ use native.Mathlib.Omega.{arith}
 use lib.IntN.{ℤ, nat_abs}
 use lib.ListN.{length, get_or}
 use borrow.Author.Tests.{ne_eqb}
-use Rattle.asp.specs.Program.{Rule, Entry, Symbol, highest, rule_atoms}
+use Rattle.asp.specs.declared.entries.Entry.{Entry}
+use Rattle.asp.specs.Program.{Rule, Symbol, highest, rule_atoms}
 use Rattle.asp.specs.Tables.{literals_at, row_at, symbol_at, symbols_of, program_of}
 use Rattle.aspif_fields.specs.Fields.{Read, got, bad, bind, nil, number}
 use Rattle.aspif_lines.specs.Text.{rule_line, minimise_line, symbol_line, Minimise, rule, minimise, symbol, comment, final, of_kind, statement, line, led, stepped_line, stop}

@@ -2,10 +2,12 @@
 use Rattle.std.specs.Prelude.{◌≡◌, true, false, not, List, [], ◌∷◌, ◌++◌, ℕ, ◌+◌, ◌≤◌, ◌<◌, max, ℤ, nat_abs, length, Option, Some, None, Result, Ok, Err, IfOk}
 use Rattle.std.specs.Borrow.{Bor}
 use Rattle.std.specs.Int.Signed.{lt_z}
+use Rattle.asp.specs.declared.rules.Row.{Row}
+use Rattle.asp.specs.declared.entries.Entry.{Entry}
 use Rattle.asp.specs.Sets.{pick}
 use Rattle.asp.specs.Literal.{one_signed}
-use Rattle.asp.specs.Program.{Rule, Entry, Symbol, highest, rule_atoms, atoms}
-use Rattle.asp.specs.Tables.{literals_at, is_choice, is_weighted, is_mixed, Row, row_at, rules_of, entries_of, symbols_of, Tables, program_of}
+use Rattle.asp.specs.Program.{Rule, Symbol, highest, rule_atoms, atoms}
+use Rattle.asp.specs.Tables.{literals_at, is_choice, is_weighted, is_mixed, row_at, rules_of, entries_of, symbols_of, Tables, program_of}
 use Rattle.aspif_fields.specs.Fields.{got, bad}
 use Rattle.aspif_fields.specs.Refusals.{refusal_number}
 use Rattle.aspif_fields.specs.declared.refusal.Refusal.{Refusal}
