@@ -6,9 +6,10 @@ use native.Mathlib.Omega.{arith}
 use lib.IntN.{nat_abs}
 use lib.ListN.{get_or}
 use Rattle.std.proofs.Common.{Result, Ok, Err, IfOk}
+use Rattle.asp.specs.declared.entries.Entry.{Entry}
 use Rattle.aspif.specs.declared.text.RefusedAt.{RefusedAt}
 use Rattle.asp.specs.Sets.{In}
-use Rattle.asp.specs.Program.{Literal, Weighed, Body, normal, weighted, Head, constraint, plain, choice, Rule, Entry, Symbol, Program, highest, body_atoms, head_atoms, rule_atoms, atoms, All, LiteralIn, BodyIn, HeadIn, RuleIn, ProgramIn}
+use Rattle.asp.specs.Program.{Literal, Weighed, Body, normal, weighted, Head, constraint, plain, choice, Rule, Symbol, Program, highest, body_atoms, head_atoms, rule_atoms, atoms, All, LiteralIn, BodyIn, HeadIn, RuleIn, ProgramIn}
 use Rattle.asp.specs.Tables.{row_at, RowIn}
 use Rattle.aspif_lines.specs.Text.{text_of, accepted}
 use Rattle.aspif_tables.specs.Lists.{lists_of, Sound, SoundLists, Within}
