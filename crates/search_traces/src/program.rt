@@ -1,0 +1,30 @@
+// A stored program: its rules, the wished literals, and the stable models, each as a number in base 2 whose first digit is atom 1.
+ghost use Rattle.std.proofs.Props.{props};
+ghost use Rattle.search_traces.specs.Stored.{Roomy, Wished};
+
+use asp::rules::RuleTable;
+
+#[derive(Clone, Copy)]
+pub struct Program<'a> {
+    pub name: &'a str,
+    pub table: RuleTable<'a>,
+    pub wished: &'a [i32],
+    pub models: &'a [u32],
+    pub ghost roomy: { Roomy table.rows.now } by { Prim.hlevel props },
+    pub ghost wishes: { Wished table.atoms wished.now } by { Prim.hlevel props },
+}
+
+// A rule's row: its head, its body, its first place in the pool, its head atoms and its body literals.
+macro_rules! row {
+    ($head:ident, $body:ident, $first:literal, $heads:literal, $literals:literal) => {
+        Row {
+            head: HeadKind::$head,
+            body: BodyKind::$body,
+            first: $first,
+            heads: $heads,
+            literals: $literals,
+        }
+    };
+}
+
+pub(crate) use row;
