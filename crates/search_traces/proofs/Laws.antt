@@ -1,5 +1,5 @@
 -- What a turn keeps. Assumes nothing.
-use Rattle.std.proofs.Common.{◌≡◌, ℕ, List, length, ℤ, arith}
+use Rattle.std.proofs.Common.{◌≡◌, ℕ, true, false, List, length, ℤ, arith}
 use Rattle.asp.specs.declared.rules.Row.{Row}
 use Rattle.asp.specs.Tables.{Formed}
 use Rattle.search.specs.declared.step.Tested.{Tested}
@@ -13,7 +13,7 @@ use Rattle.search.proofs.Kept.{after_back, after_fresh, after_step}
 use Rattle.counting.specs.declared.counters.Index.{Index}
 use Rattle.counting.specs.Counters.{Counters}
 use Rattle.counting.specs.Counts.{Tracks}
-use Rattle.indexing.specs.Sorting.{Readied}
+use Rattle.indexing.specs.Sorting.{Readied, Sorted}
 use Rattle.indexing.specs.Leaf.{Indexes, Equipped}
 use Rattle.indexing.proofs.Indexing.{ready}
 use Rattle.indexing.proofs.Moving.{equipped}
@@ -37,7 +37,11 @@ module _ {n : ℕ} {pool : List ℤ} {rows : List Row} {rulecount : ℕ} {s : As
 pub soft_formed : {n : ℕ} {w : List ℤ} → Wished n w → {b : List ℕ} → length b ≡ 8 → {f : Set} → FormedSoft n (assumed_entries w b (length w) f)
 soft_formed f e = record { wished_long = omega arith; blamed_long = omega (arith, f.few); atoms = f.atoms }
 
--- ---- the lists of a stored program's rules can be made
+-- ---- the lists of a stored program's rules can be made, and are its index
 
-pub program_readied : {n : ℕ} {pool : List ℤ} {rows : List Row} → Formed n pool rows (length rows) → Roomy rows → Readied (rules pool rows (length rows))
-program_readied f r = ready f r.few r.places
+module _ {n : ℕ} {pool : List ℤ} {rows : List Row} (f : Formed n pool rows (length rows)) (r : Roomy rows) where
+  pub program_readied : Readied (rules pool rows (length rows))
+  program_readied = ready f r.few r.places
+
+  pub program_indexed : {o h : Index} → Sorted false (rules pool rows (length rows)) o → Sorted true (rules pool rows (length rows)) h → Indexes (rules pool rows (length rows)) o h
+  program_indexed a b = record { readied = program_readied; conditions = a; heads = b }

@@ -1,8 +1,8 @@
 // The machine of a query. The program and the lists of its rules are lent; the trail, the rules' numbers and the blame are its own.
-ghost use Rattle.std.specs.Prelude.{◌≡◌, length};
+ghost use Rattle.std.specs.Prelude.{true, false, length};
 ghost use Rattle.search.specs.Scan.{rules};
 ghost use Rattle.counting.specs.Counters.{counters};
-ghost use Rattle.indexing.specs.Leaf.{Indexes};
+ghost use Rattle.indexing.specs.Sorting.{Sorted};
 ghost use Rattle.search_traces.specs.Stored.{Running};
 ghost use Rattle.search_traces.specs.Alone.{running_prop};
 
@@ -23,6 +23,7 @@ pub struct Machine<'a> {
     pub trail: Places,
     pub key: [u16; 2048],
     pub marks: Marks,
+    // Kept: 1 where blamed, as `search` reads it
     pub blamed: [u8; 8],
     pub ghost running: { Running program.table.atoms (rules program.table.pool.now program.table.rows.now (length program.table.rows.now)) conditions.now heads.now trail (counters key marks) } by { running_prop _ _ _ _ _ _ },
 }
@@ -30,7 +31,8 @@ pub struct Machine<'a> {
 impl<'a> Machine<'a> {
     // At the empty trail.
     pub fn new(program: Program<'a>, conditions: &'a Index, heads: &'a Index) -> Machine<'a>
-        requires { Indexes (rules program.table.pool.now program.table.rows.now (length program.table.rows.now)) conditions.now heads.now }
+        requires conditions { Sorted false (rules program.table.pool.now program.table.rows.now (length program.table.rows.now)) conditions.now }
+        requires heads { Sorted true (rules program.table.pool.now program.table.rows.now (length program.table.rows.now)) heads.now }
     {
         let trail = trail::fresh();
         let mut key = [0; 2048];

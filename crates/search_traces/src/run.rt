@@ -1,7 +1,6 @@
 // One query, run to its end and printed.
 use crate::machine::Machine;
 use crate::program::Program;
-use indexing::build;
 use search::step::Tested;
 use std::io;
 
@@ -76,9 +75,8 @@ fn print_core(rt: &impl Print, blamed: &[u8; 8]) -> io::Result<()> {
 // The query, to its end.
 pub fn run(rt: &impl Print, program: Program<'_>) -> io::Result<()> {
     println!(rt; "program {}", program.name)?;
-    let table = program.table;
-    let conditions = build::lists_of(table.pool, table.rows, table.rows.len(), false);
-    let heads = build::lists_of(table.pool, table.rows, table.rows.len(), true);
+    let conditions = program.lists(false);
+    let heads = program.lists(true);
     let mut machine = Machine::new(program, &conditions, &heads);
     for steps in 1..1001 {
         if let Some(end) = turn(rt, &mut machine)? {
