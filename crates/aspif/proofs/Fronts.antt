@@ -1,14 +1,13 @@
 -- The filled front of a stored program's tables is in shape, and says its program. Assumes nothing.
-use mathlib.Core.Path.{◌≡◌, ap, ◌∙◌, sym}
+use mathlib.Core.Path.{◌≡◌, ap}
 use mathlib.Core.List.{List}
-use Prim.Native.Nat.{ℕ, ◌+◌, ◌<◌, ◌≤◌}
+use Prim.Native.Nat.{ℕ, ◌+◌, ◌<◌}
 use native.Mathlib.Omega.{arith}
 use lib.IntN.{ℤ, pos}
-use lib.ListN.{length, get_or, take}
+use lib.ListN.{length, take}
 use lib.Seq.{get_or-take, length-take-le}
 use Rattle.asp.specs.declared.rules.Row.{Row}
-use Rattle.asp.specs.Program.{All, LiteralIn, RuleIn}
-use Rattle.asp.specs.Tables.{span, no_row, row_at, rule_at, rules_of, no_entry, entry_at, entries_of, literals_at, RowIn, Formed}
+use Rattle.asp.specs.Tables.{no_row, row_at, rule_at, rules_of, no_entry, Formed}
 use Rattle.asp.specs.Paying.{EntriesFormed}
 use Rattle.asp.proofs.Spans.{span_part}
 use Rattle.aspif_lines.proofs.Spans.{span_shift}

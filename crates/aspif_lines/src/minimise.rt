@@ -19,7 +19,7 @@ use aspif_fields::token::Rest;
 const MOST_PRIORITY: u32 = 1000; // document 01: "p from -1,000 to 1,000 (signed)"
 
 // k entries of priority p, stored from `used` on. The highest atom so far.
-// Kept: beside `read_members`, since what is stored is no literal, and its atom is found in another way.
+// Kept: beside `read_members`, since one function for both would have to be told what is stored and how its atom is found, and is no plainer.
 fn read_pairs(
     rest: &mut Rest,
     priority: i32,

@@ -77,7 +77,7 @@ extra_few kind k = go (is_weighted kind)
     go true = omega arith
     go false = omega arith
 
--- a row's kind says truly whether some atom stands with both signs
+-- the kind of a weighted body says truly whether some atom stands with both signs
 abbrev SignedRow : List ℤ → Row → Type 0
 SignedRow pool r = is_weighted r.body ≡ true → is_mixed r.body ≡ not (one_signed (literals_at pool (r.first + r.heads) r.literals))
 

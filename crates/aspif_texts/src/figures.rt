@@ -108,7 +108,10 @@ fn fold_symbol(h: u32, text: &[u8], conditions: &[i32], row: SymbolRow) -> u32 {
     let a = fold_number(h, row.length);
     let b = fold_number(a, row.literals);
     let c = fold_bytes(b, part(text, row.name, usize::from(row.length)));
-    fold_literals(c, part(conditions, row.condition, usize::from(row.literals)))
+    fold_literals(
+        c,
+        part(conditions, row.condition, usize::from(row.literals)),
+    )
 }
 
 fn fold_entry(h: u32, e: Entry) -> u32 {

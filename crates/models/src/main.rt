@@ -70,7 +70,10 @@ fn set_of(number: u32) -> [u8; 1025] {
 fn is_model(p: &Stored, m: &[u8; 1025]) -> bool
     requires { WellFormed p.now }
 {
-    matches!(is_stable(rule_table(p), AtomSet { bytes: m }), Stability::Stable)
+    matches!(
+        is_stable(rule_table(p), AtomSet { bytes: m }),
+        Stability::Stable
+    )
 }
 
 fn print_set(rt: &impl Print, m: &[u8; 1025]) -> io::Result<()> {
