@@ -12,14 +12,9 @@ use Rattle.asp.specs.Sets.{In}
 use Rattle.asp.specs.Program.{Literal, Weighed, Body, normal, weighted, Head, constraint, plain, choice, Rule, Symbol, Program, highest, body_atoms, head_atoms, rule_atoms, atoms, All, LiteralIn, BodyIn, HeadIn, RuleIn, ProgramIn}
 use Rattle.asp.specs.Tables.{row_at, RowIn}
 use Rattle.aspif_lines.specs.Text.{text_of, accepted}
-<<<<<<< HEAD
+use Rattle.aspif_lines.specs.Seen.{entry_atom}
 use Rattle.aspif_tables.specs.Lists.{lists_of, Sound, SoundLists, Within}
 use Rattle.aspif.specs.Store.{seen_verdict, load_of, answer_of, stored_program, stored_text, WellFormed}
-=======
-use Rattle.aspif_lines.specs.Seen.{entry_atom}
-use Rattle.aspif_tables.specs.Lists.{lists_of, SoundLists, Within}
-use Rattle.aspif.specs.Store.{answer_of, stored_program, stored_text, WellFormed}
->>>>>>> 26ac78b1269b5c98ddc00d18b6e0aaf5492b536b
 use Rattle.aspif_tables.specs.declared.table.Stored.{Stored}
 use Rattle.aspif_lines.proofs.Spans.{span_length}
 use Rattle.aspif.proofs.Onwards.{fits_of, limits_within}
