@@ -127,27 +127,49 @@ def tables(rules):
     """The pool and the rows of asp's tables: a weighted body has its bound and its weights behind its literals."""
     pool, rows = [], []
     for kind, heads, body in rules:
-        rows += [kind, len(pool), len(heads), len(body[1]) if isinstance(body, tuple) else len(body)]
+        lits = [l for l, _ in body[1]] if isinstance(body, tuple) else body
+        mixed = any(-l in lits for l in lits)
+        form = ('Mixed' if mixed else 'Weighted') if isinstance(body, tuple) else 'Normal'
+        rows.append('row!(%s, %s, %d, %d, %d)' % ('Choice' if kind == 1 else 'Plain', form, len(pool), len(heads), len(lits)))
+        pool += heads + lits
         if isinstance(body, tuple):
-            lits = [l for l, _ in body[1]]
-            rows[-4] += 4 if any(-l in lits for l in lits) else 2
-            pool += heads + lits + [body[0]] + [w for _, w in body[1]]
-        else:
-            pool += heads + body
+            pool += [body[0]] + [w for _, w in body[1]]
     return pool, rows
 
 NAMES = ['capacity', 'one_or_two', 'both_signs', 'nothing', 'twice', 'worth', 'not_twice', 'itself_weighed', 'not_itself_weighed', 'head_by_sum', 'choice_by_sum']
+
+def listed(items):
+    """As rt fmt lays it out: a line of its own for each row, where they are too long for one."""
+    line = ', '.join(map(str, items))
+    return '&[%s]' % line if len(line) <= 60 else '&[%s\n            ]' % ''.join('\n                %s,' % x for x in items)
 
 def function(name, program):
     title, n, rules, wishes = program
     pool, rows = tables(rules)
     found = [sum(1 << (n - a) for a in m) for m in subsets(n) if stable(m, rules)]
-    array = lambda xs, t: '[%s]' % ', '.join(['%d%s' % (xs[0], t)] + [str(x) for x in xs[1:]]) if xs else '[0%s; 0]' % t
-    return 'pub fn %s(rt: &impl Print) -> io::Result<()> {\n    say::say(rt, b"program %s\\n")?;\n    let pool = %s;\n    let rows = %s;\n    let wished = %s;\n    let models = %s;\n    run::run(rt, &pool, &rows, %d, %d, &wished, %d, &models)\n}\n' % (
-        name, title, array(pool, 'i32'), array(rows, 'u16'), array(wishes, 'i32'), array(found, 'u32'), len(rules), n, len(wishes))
+    return """pub fn %s() -> Program<'static> {
+    Program {
+        name: "%s",
+        table: RuleTable {
+            atoms: %d,
+            pool: %s,
+            rows: %s,
+        },
+        wished: %s,
+        models: %s,
+    }
+}
+""" % (name, title, n, listed(pool), listed(rows), listed(wishes), listed(found))
+
+HEAD = """// Order 2: programs with weighted bodies, as `programs` has the others. Written by tests/traces.py.
+#![tactic(auto, using(crate::proofs::Checked::formed, crate::proofs::Checked::roomy, crate::proofs::Checked::wished), unfolding(asp::specs::Literal::occurs_among, asp::specs::Literal::one_signed, asp::specs::Tables::span, asp::specs::Tables::is_choice, asp::specs::Tables::is_weighted, asp::specs::Tables::is_mixed, counting::specs::Counts::sum_from))]
+
+use crate::program::{Program, row};
+use asp::rules::{BodyKind, HeadKind, Row, RuleTable};
+"""
 
 if sys.argv[1:] == ['--weighted']:
-    print('// Order 2: programs with weighted bodies, as `programs` has the others. Written by tests/traces.py.\nuse crate::{run, say};\nuse std::io;\n')
+    print(HEAD)
     print('\n'.join(function(*x) for x in zip(NAMES, filter(is_weighted, PROGRAMS))), end='')
     sys.exit()
 

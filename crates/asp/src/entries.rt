@@ -4,7 +4,7 @@ ghost use Rattle.asp.specs.Penalty.{paid_literal};
 
 use crate::literal;
 
-#[derive(Clone, Copy, PartialEq, Eq, Debug)]
+#[derive(Clone, Copy, PartialEq, Eq, Debug, Default)]
 pub struct Entry {
     pub priority: i32,
     pub literal: i32,

@@ -10,14 +10,16 @@ ghost use Rattle.asp.specs.Alone.{rules_in-prop};
 use crate::atoms::AtomSet;
 use crate::literal::part;
 
-#[derive(Clone, Copy, PartialEq, Eq, Debug)]
+#[derive(Clone, Copy, PartialEq, Eq, Debug, Default)]
 pub enum HeadKind {
+    #[default]
     Plain,
     Choice,
 }
 
-#[derive(Clone, Copy, PartialEq, Eq, Debug)]
+#[derive(Clone, Copy, PartialEq, Eq, Debug, Default)]
 pub enum BodyKind {
+    #[default]
     Normal,
     // order 2: a bound that the weights of pairs have to reach; each atom stands with one sign
     Weighted,
@@ -50,7 +52,7 @@ impl BodyKind {
     }
 }
 
-#[derive(Clone, Copy, PartialEq, Eq, Debug)]
+#[derive(Clone, Copy, PartialEq, Eq, Debug, Default)]
 pub struct Row {
     pub head: HeadKind,
     pub body: BodyKind,

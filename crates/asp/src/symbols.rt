@@ -8,7 +8,7 @@ ghost use Rattle.asp.specs.Paying.{SymbolFormed};
 use crate::atoms::AtomSet;
 use crate::literal::part;
 
-#[derive(Clone, Copy, PartialEq, Eq, Debug)]
+#[derive(Clone, Copy, PartialEq, Eq, Debug, Default)]
 pub struct SymbolRow {
     // the first byte of the name in the text, and how many
     pub name: u16,

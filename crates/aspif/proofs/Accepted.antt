@@ -6,8 +6,9 @@ use Prim.Native.Nat.{ℕ, ◌+◌, ◌≤◌}
 use lib.Dec.{ltb, eqb}
 use lib.IntN.{ℤ, nat_abs}
 use lib.ListN.{length}
+use Rattle.asp.specs.declared.entries.Entry.{Entry}
 use Rattle.asp.specs.Sets.{pick, In}
-use Rattle.asp.specs.Program.{Weighed, Body, normal, weighted, Rule, Entry, Symbol, Program, All, LiteralIn, BodyIn, HeadIn, RuleIn, ProgramIn}
+use Rattle.asp.specs.Program.{Weighed, Body, normal, weighted, Rule, Symbol, Program, All, LiteralIn, BodyIn, HeadIn, RuleIn, ProgramIn}
 use Rattle.asp.specs.Tables.{named}
 use Rattle.asp.proofs.Spans.{all_map}
 use Rattle.aspif_fields.specs.Fields.{Read, got, bad, bind, number, signed, field, natural, literal, opening, pair}

@@ -9,3 +9,4 @@ pub mod Loads
 pub mod Witness
 pub mod Samples
 pub mod Uses
+pub mod Fronts

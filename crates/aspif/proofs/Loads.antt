@@ -6,11 +6,13 @@ use native.Mathlib.Omega.{arith}
 use lib.IntN.{nat_abs}
 use lib.ListN.{get_or}
 use Rattle.std.proofs.Common.{Result, Ok, Err, IfOk}
+use Rattle.asp.specs.declared.entries.Entry.{Entry}
 use Rattle.aspif.specs.declared.text.RefusedAt.{RefusedAt}
 use Rattle.asp.specs.Sets.{In}
-use Rattle.asp.specs.Program.{Literal, Weighed, Body, normal, weighted, Head, constraint, plain, choice, Rule, Entry, Symbol, Program, highest, body_atoms, head_atoms, rule_atoms, atoms, All, LiteralIn, BodyIn, HeadIn, RuleIn, ProgramIn}
+use Rattle.asp.specs.Program.{Literal, Weighed, Body, normal, weighted, Head, constraint, plain, choice, Rule, Symbol, Program, highest, body_atoms, head_atoms, rule_atoms, atoms, All, LiteralIn, BodyIn, HeadIn, RuleIn, ProgramIn}
 use Rattle.asp.specs.Tables.{row_at, RowIn}
 use Rattle.aspif_lines.specs.Text.{text_of, accepted}
+use Rattle.aspif_lines.specs.Seen.{entry_atom}
 use Rattle.aspif_tables.specs.Lists.{lists_of, Sound, SoundLists, Within}
 use Rattle.aspif.specs.Store.{seen_verdict, load_of, answer_of, stored_program, stored_text, WellFormed}
 use Rattle.aspif_tables.specs.declared.table.Stored.{Stored}
@@ -67,9 +69,6 @@ rule_in n r p b = (head_in n r.head p.0 (omega arith), body_in n r.body p.1 (ome
 rule_bound : (r : Rule) → RuleIn 1024 r → rule_atoms r ≤ 1024
 rule_bound r p = omega (arith, head_bound r.head p.0, body_bound r.body p.1)
 
-abbrev entry_atoms : Entry → ℕ
-entry_atoms e = nat_abs e.literal
-
 abbrev symbol_atoms : Symbol → ℕ
 symbol_atoms s = highest nat_abs s.condition
 
@@ -78,7 +77,7 @@ atoms_bound p i =
     omega (
       arith,
       highest_bound rule_atoms (RuleIn 1024) (RuleIn 1024) 1024 p.rules rule_bound i.rules,
-      highest_bound entry_atoms (λ (e : Entry). LiteralIn 1024 e.literal) (λ (e : Entry). LiteralIn 1024 e.literal) 1024 p.entries (λ e q. q.1) i.entries,
+      highest_bound entry_atom (λ (e : Entry). LiteralIn 1024 e.literal) (λ (e : Entry). LiteralIn 1024 e.literal) 1024 p.entries (λ e q. q.1) i.entries,
       highest_bound symbol_atoms (λ (s : Symbol). All (LiteralIn 1024) s.condition) (λ (s : Symbol). All (LiteralIn 1024) s.condition) 1024 p.symbols (λ s q. literals_bound s.condition q) i.symbols,
     )
 
@@ -86,7 +85,7 @@ pub program_in : (p : Program) → ProgramIn 1024 p → ProgramIn (atoms p) p
 program_in p i =
     record {
       rules = all_highest rule_atoms (RuleIn 1024) (RuleIn (atoms p)) (atoms p) p.rules (rule_in (atoms p)) i.rules (omega arith);
-      entries = all_highest entry_atoms (λ (e : Entry). LiteralIn 1024 e.literal) (λ (e : Entry). LiteralIn (atoms p) e.literal) (atoms p) p.entries (λ e q b. (q.0, b)) i.entries (omega arith);
+      entries = all_highest entry_atom (λ (e : Entry). LiteralIn 1024 e.literal) (λ (e : Entry). LiteralIn (atoms p) e.literal) (atoms p) p.entries (λ e q b. (q.0, b)) i.entries (omega arith);
       symbols = all_highest symbol_atoms (λ (s : Symbol). All (LiteralIn 1024) s.condition) (λ (s : Symbol). All (LiteralIn (atoms p)) s.condition) (atoms p) p.symbols (λ s q b. literals_in (atoms p) s.condition q b) i.symbols (omega arith);
     }
 

@@ -9,7 +9,7 @@ use lib.IntN.{pos}
 use lib.ListN.{length, get_or}
 use borrow.Author.Tests.{ne_eqb, leb-true}
 use Rattle.asp.specs.Sets.{pick}
-use Rattle.asp.specs.Tables.{rule_at, symbol_at, entry_at, row_at}
+use Rattle.asp.specs.Tables.{rule_at, symbol_at, entry_at, row_at, symbol_row}
 use Rattle.aspif_lines.specs.Text.{pieces, longer, nothing, judged_line, lines, stepped_line, fits, limits, Reading, stop, last, goes, Answer, accepted, refused}
 use Rattle.aspif_tables.specs.Lists.{Within, Lists, reading_of, SoundLists, turn_of, lists_of, followed, SplitLong, Sound, reading_in}
 use Rattle.aspif_tables.specs.declared.table.Stored.{Stored}
@@ -83,9 +83,9 @@ fits_of t n h =
     rw (
       span_length (λ (j : ℕ). rule_at t.pool (row_at t.rules j)) 0 n.rules,
       h.rules.size,
-      span_length (entry_at t.priorities t.literals t.weights) 0 n.entries,
+      span_length (entry_at t.entries) 0 n.entries,
       span_length (λ (j : ℕ). get_or t.levels j (pos 0)) 0 n.levels,
-      span_length (λ (j : ℕ). symbol_at t.text t.conditions (row_at t.symbols j)) 0 n.symbols,
+      span_length (λ (j : ℕ). symbol_at t.text t.conditions (symbol_row t.symbols j)) 0 n.symbols,
       h.symbols.size,
       h.symbols.length,
     )

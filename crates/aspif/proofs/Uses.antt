@@ -4,11 +4,12 @@ use mathlib.Core.List.{List}
 use Prim.Native.Nat.{ℕ, zero, suc, ◌+◌, ◌≤◌, ◌<◌}
 use native.Mathlib.Omega.{arith}
 use native.Mathlib.Numerals.{add-one}
-use lib.ListN.{length, get_or, take, drop}
+use lib.ListN.{length, take, drop}
 use lib.Seq.{drop-cons}
-use lib.IntN.{pos, nat_abs}
+use lib.IntN.{nat_abs}
+use Rattle.asp.specs.declared.entries.Entry.{Entry}
 use Rattle.asp.specs.Sets.{In}
-use Rattle.asp.specs.Program.{Entry, All, LiteralIn}
+use Rattle.asp.specs.Program.{All, LiteralIn}
 use Rattle.asp.specs.Tables.{span, entry_at}
 use Rattle.aspif_lines.specs.Seen.{bytes_at}
 use Rattle.aspif.specs.Store.{stored_text, WellFormed}
@@ -32,8 +33,8 @@ pub text_part : (p : Stored) → WellFormed p → stored_text p ≡ take p.count
 text_part p w = bytes_part p.text 0 p.counts.text (omega (arith, w.text, w.sized.text))
 
 -- the literal of entry j has an atom of 1 to n, and its weight is in its range
-pub entry_in : (p : Stored) → WellFormed p → (j : ℕ) → j < p.counts.entries → In p.counts.atoms (nat_abs (get_or p.literals j (pos 0))) × (nat_abs (get_or p.weights j (pos 0)) ≤ 1000000)
+pub entry_in : (p : Stored) → WellFormed p → (j : ℕ) → j < p.counts.entries → In p.counts.atoms (nat_abs (entry_at p.entries j).literal) × (nat_abs (entry_at p.entries j).weight ≤ 1000000)
 entry_in p w j h =
     let z : 0 + j ≡ j = omega arith in
-    let f = entry_at p.priorities p.literals p.weights in
+    let f = entry_at p.entries in
     (rw z at (all_span (λ (e : Entry). LiteralIn p.counts.atoms e.literal) f 0 p.counts.entries w.named.entries j h), rw z at (all_span (λ (e : Entry). nat_abs e.weight ≤ 1000000) f 0 p.counts.entries w.weights j h))

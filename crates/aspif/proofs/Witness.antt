@@ -2,22 +2,28 @@
 use mathlib.Core.Path.{◌≡◌, refl, sym, ap, ◌∙◌, subst}
 use mathlib.Core.Bool.{Bool, true, false, not}
 use mathlib.Core.List.{List, [], ◌∷◌, ◌++◌, map, append_assoc}
-use Prim.Native.Nat.{ℕ, suc, ◌+◌, ◌-◌, ◌*◌, ◌≤◌, ◌<◌}
+use Prim.Native.Nat.{ℕ, suc, ◌+◌, ◌-◌, ◌≤◌, ◌<◌}
 use native.Mathlib.Omega.{arith}
 use lib.IntN.{ℤ, pos, nat_abs}
 use lib.ListN.{length, get_or, replicate, length-append, length-replicate}
 use lib.Seq.{get_or-append-add}
+use Rattle.asp.specs.declared.rules.HeadKind.{HeadKind}
+use Rattle.asp.specs.declared.rules.HeadKind.TheVariants as head
+use Rattle.asp.specs.declared.rules.BodyKind.{BodyKind}
+use Rattle.asp.specs.declared.rules.BodyKind.TheVariants as body
+use Rattle.asp.specs.declared.rules.Row.{Row}
+use Rattle.asp.specs.declared.entries.Entry.{Entry}
+use Rattle.asp.specs.declared.symbols.SymbolRow.{SymbolRow}
 use Rattle.asp.specs.Sets.{pick}
 use Rattle.asp.specs.Literal.{one_signed}
-use Rattle.asp.specs.Program.{Weighed, Body, normal, weighted, Head, constraint, plain, choice, Rule, Entry, Symbol, Program, atoms, All, RuleIn, ProgramIn}
-use Rattle.asp.specs.Tables.{span, literals_at, pair_at, pairs_at, named, atoms_at, Row, row_at, head_at, rule_at, RowIn, entry_at, entries_of, symbol_at}
+use Rattle.asp.specs.Program.{Weighed, Body, normal, weighted, Head, constraint, plain, choice, Rule, Symbol, Program, atoms, All, RuleIn, ProgramIn}
+use Rattle.asp.specs.Tables.{span, literals_at, pair_at, pairs_at, named, atoms_at, is_choice, is_weighted, is_mixed, no_row, row_at, head_at, rule_at, RowIn, no_entry, no_symbol, symbol_row, symbol_at}
 use Rattle.asp.proofs.Spans.{span_at}
 use Rattle.aspif_lines.specs.Text.{sum, head_size, body_size, rule_size, condition_size, name_size, fits, text_of, accepted}
-use Rattle.aspif_lines.specs.Seen.{body_from, kind_of, bytes_at}
+use Rattle.aspif_lines.specs.Seen.{body_from, bytes_at}
 use Rattle.asp.proofs.Spans.{map_span}
 use Rattle.aspif_lines.proofs.Spans.{span_shift}
 use Rattle.aspif_lines.proofs.Heads.{length_map}
-use Rattle.aspif_lines.proofs.RowKinds.{kind_choice, kind_weighted, kind_mixed}
 use Rattle.aspif_tables.specs.Lists.{Descending, Within, Sized}
 use Rattle.aspif_tables.specs.Lists.{lists_of}
 use Rattle.aspif.specs.Store.{BodyWeighs, stored_program, stored_text, WellFormed}
@@ -51,13 +57,6 @@ list_at d xs ys zs =
     span_shift (λ (j : ℕ). get_or (xs ++ (ys ++ zs)) j d) (λ (j : ℕ). get_or (ys ++ zs) j d) (length xs) 0 (length ys)
     (λ j l. let q : 0 + j ≡ j = omega arith in rw q (get_or-append-add xs (ys ++ zs) j d)) ∙ list_front d ys zs
 
--- the fields of entries, in three tables
-entries_front : (es : List Entry) (ps ls ws : List ℤ)
-    → entries_of (map (λ (e : Entry). e.priority) es ++ ps) (map (λ (e : Entry). e.literal) es ++ ls) (map (λ (e : Entry). e.weight) es ++ ws) (length es) ≡ es
-entries_front es ps ls ws =
-    fronts (λ es j. entry_at (map (λ (e : Entry). e.priority) es ++ ps) (map (λ (e : Entry). e.literal) es ++ ls) (map (λ (e : Entry). e.weight) es ++ ws) j)
-    (λ e es. refl) (λ e es j. refl) es
-
 -- the table of n places with xs at its front
 abbrev padded : {A : Type 0} → A → ℕ → List A → List A
 padded d n xs = xs ++ replicate (n - length xs) d
@@ -76,32 +75,10 @@ unfolding laid sum
 laid_length f size h [] = refl
 laid_length f size h (x ∷ xs) = omega (arith, length-append (f x) (laid f xs), h x, laid_length f size h xs)
 
--- the numbers of a row
-abbrev four : Row → List ℕ
-four r = r.a ∷ r.b ∷ r.c ∷ r.d ∷ []
-
-rows_length : (rs : List Row) → length (laid four rs) ≡ length rs * 4
-unfolding laid
-rows_length [] = refl
-rows_length (r ∷ rs) = omega (arith, rows_length rs)
-
--- the rows after the first
-row_next : (r : Row) (t : List ℕ) (j : ℕ) → row_at (four r ++ t) (suc j) ≡ row_at t j
-row_next r t j =
-    let a : suc j * 4 ≡ suc (suc (suc (suc (j * 4)))) = omega arith in
-    let b : suc j * 4 + 1 ≡ suc (suc (suc (suc (j * 4 + 1)))) = omega arith in
-    let c : suc j * 4 + 2 ≡ suc (suc (suc (suc (j * 4 + 2)))) = omega arith in
-    let d : suc j * 4 + 3 ≡ suc (suc (suc (suc (j * 4 + 3)))) = omega arith in
-    rw (b, c, d, a)
-
-rows_front : (rs : List Row) (t : List ℕ) → span (row_at (laid four rs ++ t)) 0 (length rs) ≡ rs
-unfolding laid
-rows_front rs t = fronts (λ rs j. row_at (laid four rs ++ t) j) (λ r rs. refl) (λ r rs j. row_next r (laid four rs ++ t) j) rs
-
 -- ---- a pool of items laid one after the other, and a row for each that says where it lies
 
-module _ {A : Type 0} (P : A → Type 0) (lay : A → List ℤ) (row : ℕ → (x : A) → P x → Row) where
-  unfoldable rows : ℕ → (xs : List A) → All P xs → List Row
+module _ {A R : Type 0} (P : A → Type 0) (lay : A → List ℤ) (row : ℕ → (x : A) → P x → R) where
+  unfoldable rows : ℕ → (xs : List A) → All P xs → List R
   rows i [] h = []
   rows i (x ∷ xs) h = row i x h.0 ∷ rows (i + length (lay x)) xs h.1
 
@@ -112,14 +89,14 @@ module _ {A : Type 0} (P : A → Type 0) (lay : A → List ℤ) (row : ℕ → (
   rows_count i (x ∷ xs) h = ap suc (rows_count (i + length (lay x)) xs h.1)
 
   -- what is so of every row of an item that ends by n
-  rows_all : (Q : Row → Type 0) (n : ℕ) → ((i : ℕ) (x : A) (p : P x) → i + length (lay x) ≤ n → Q (row i x p)) → (i : ℕ) (xs : List A) (h : All P xs) → i + length (laid lay xs) ≤ n → All Q (rows i xs h)
+  rows_all : (Q : R → Type 0) (n : ℕ) → ((i : ℕ) (x : A) (p : P x) → i + length (lay x) ≤ n → Q (row i x p)) → (i : ℕ) (xs : List A) (h : All P xs) → i + length (laid lay xs) ≤ n → All Q (rows i xs h)
   unfolding rows laid
   rows_all Q n f i [] h l = tt
   rows_all Q n f i (x ∷ xs) h l =
       (f i x h.0 (omega (arith, length-append (lay x) (laid lay xs))), rows_all Q n f (i + length (lay x)) xs h.1 (omega (arith, length-append (lay x) (laid lay xs))))
 
   -- the items come back, where each comes back by its row
-  rows_back : (at : List ℤ → Row → A) → ((xs : List ℤ) (x : A) (zs : List ℤ) (p : P x) → at (xs ++ (lay x ++ zs)) (row (length xs) x p) ≡ x)
+  rows_back : (at : List ℤ → R → A) → ((xs : List ℤ) (x : A) (zs : List ℤ) (p : P x) → at (xs ++ (lay x ++ zs)) (row (length xs) x p) ≡ x)
       → (before : List ℤ) (xs : List A) (after : List ℤ) (h : All P xs) → map (at (before ++ (laid lay xs ++ after))) (rows (length before) xs h) ≡ xs
   unfolding rows laid
   rows_back at f before [] after h = refl
@@ -131,7 +108,7 @@ module _ {A : Type 0} (P : A → Type 0) (lay : A → List ℤ) (row : ℕ → (
       (rw (f before x (laid lay xs ++ after) h.0) (ap (λ (ys : List A). x ∷ ys) (rw (length-append before (lay x), d) at r)))
 
   -- what is so of the row of every item among others is so of all
-  rows_hold : (Q : List ℤ → Row → Type 0) → ((xs : List ℤ) (x : A) (zs : List ℤ) (p : P x) → Q (xs ++ (lay x ++ zs)) (row (length xs) x p))
+  rows_hold : (Q : List ℤ → R → Type 0) → ((xs : List ℤ) (x : A) (zs : List ℤ) (p : P x) → Q (xs ++ (lay x ++ zs)) (row (length xs) x p))
       → (before : List ℤ) (xs : List A) (after : List ℤ) (h : All P xs) → All (Q (before ++ (laid lay xs ++ after))) (rows (length before) xs h)
   unfolding rows laid
   rows_hold Q f before [] after h = tt
@@ -141,27 +118,30 @@ module _ {A : Type 0} (P : A → Type 0) (lay : A → List ℤ) (row : ℕ → (
       let r = rows_hold Q f (before ++ lay x) xs after h.1 in
       subst (λ (ys : List ℤ). All (Q ys) (rows (length before) (x ∷ xs) h)) (sym e) (f before x (laid lay xs ++ after) h.0, rw (length-append before (lay x), d) at r)
 
-  -- the table of n numbers with these rows at its front
-  module _ (n : ℕ) (xs : List A) (h : All P xs) where
-    abbrev table : List ℕ
-    table = padded 0 n (laid four (rows 0 xs h))
+  -- the table of n rows with these at its front
+  module _ (d : R) (n : ℕ) (xs : List A) (h : All P xs) where
+    abbrev table : List R
+    table = padded d n (rows 0 xs h)
 
-    table_length : length xs * 4 ≤ n → length table ≡ n
-    table_length l = padded_length 0 n (laid four (rows 0 xs h)) (omega (arith, rows_length (rows 0 xs h), rows_count 0 xs h))
+    abbrev at_table : ℕ → R
+    at_table j = get_or table j d
 
-    table_rows : span (row_at table) 0 (length xs) ≡ rows 0 xs h
-    table_rows = rw (← rows_count 0 xs h) (rows_front (rows 0 xs h) _)
+    table_length : length xs ≤ n → length table ≡ n
+    table_length l = padded_length d n (rows 0 xs h) (omega (arith, rows_count 0 xs h))
 
-    table_all : (Q : Row → Type 0) (e : ℕ) → ((i : ℕ) (x : A) (p : P x) → i + length (lay x) ≤ e → Q (row i x p)) → length (laid lay xs) ≤ e → (j : ℕ) → j < length xs → Q (row_at table j)
-    table_all Q e f l j b = span_at (row_at table) Q 0 (length xs) (subst (All Q) (sym table_rows) (rows_all Q e f 0 xs h (omega arith))) j (omega arith) (omega arith)
+    table_rows : span at_table 0 (length xs) ≡ rows 0 xs h
+    table_rows = rw (← rows_count 0 xs h) (list_front d (rows 0 xs h) _)
 
-    table_hold : (Q : List ℤ → Row → Type 0) → ((ys : List ℤ) (x : A) (zs : List ℤ) (p : P x) → Q (ys ++ (lay x ++ zs)) (row (length ys) x p))
-        → (zs : List ℤ) (j : ℕ) → j < length xs → Q (laid lay xs ++ zs) (row_at table j)
-    table_hold Q f zs j b = span_at (row_at table) (Q (laid lay xs ++ zs)) 0 (length xs) (subst (All (Q (laid lay xs ++ zs))) (sym table_rows) (rows_hold Q f [] xs zs h)) j (omega arith) (omega arith)
+    table_all : (Q : R → Type 0) (e : ℕ) → ((i : ℕ) (x : A) (p : P x) → i + length (lay x) ≤ e → Q (row i x p)) → length (laid lay xs) ≤ e → (j : ℕ) → j < length xs → Q (at_table j)
+    table_all Q e f l j b = span_at at_table Q 0 (length xs) (subst (All Q) (sym table_rows) (rows_all Q e f 0 xs h (omega arith))) j (omega arith) (omega arith)
 
-    table_back : (at : List ℤ → Row → A) → ((ys : List ℤ) (x : A) (zs : List ℤ) (p : P x) → at (ys ++ (lay x ++ zs)) (row (length ys) x p) ≡ x)
-        → (zs : List ℤ) → span (λ (j : ℕ). at (laid lay xs ++ zs) (row_at table j)) 0 (length xs) ≡ xs
-    table_back at f zs = sym (map_span (at (laid lay xs ++ zs)) (row_at table) 0 (length xs)) ∙ ap (map (at (laid lay xs ++ zs))) table_rows ∙ rows_back at f [] xs zs h
+    table_hold : (Q : List ℤ → R → Type 0) → ((ys : List ℤ) (x : A) (zs : List ℤ) (p : P x) → Q (ys ++ (lay x ++ zs)) (row (length ys) x p))
+        → (zs : List ℤ) (j : ℕ) → j < length xs → Q (laid lay xs ++ zs) (at_table j)
+    table_hold Q f zs j b = span_at at_table (Q (laid lay xs ++ zs)) 0 (length xs) (subst (All (Q (laid lay xs ++ zs))) (sym table_rows) (rows_hold Q f [] xs zs h)) j (omega arith) (omega arith)
+
+    table_back : (at : List ℤ → R → A) → ((ys : List ℤ) (x : A) (zs : List ℤ) (p : P x) → at (ys ++ (lay x ++ zs)) (row (length ys) x p) ≡ x)
+        → (zs : List ℤ) → span (λ (j : ℕ). at (laid lay xs ++ zs) (at_table j)) 0 (length xs) ≡ xs
+    table_back at f zs = sym (map_span (at (laid lay xs ++ zs)) at_table 0 (length xs)) ∙ ap (map (at (laid lay xs ++ zs))) table_rows ∙ rows_back at f [] xs zs h
 
 -- ---- rules: the head's atoms, then the body's literals, then the bound and the weights of a weighted one
 
@@ -190,11 +170,45 @@ body_tail (weighted b ps) = pos b ∷ map (λ (q : Weighed). pos q.weight) ps
 abbrev rule_laid : Rule → List ℤ
 rule_laid r = map pos (head_list r.head) ++ (body_list r.body ++ body_tail r.body)
 
-abbrev row_kind : Rule → ℕ
-row_kind r = kind_of (chosen r.head) (weighs r.body) (not (one_signed (body_list r.body)))
+abbrev head_kind : Head → HeadKind
+head_kind constraint = head.Plain
+head_kind (plain a) = head.Plain
+head_kind (choice hs) = head.Choice
+
+abbrev weighed_kind : Bool → BodyKind
+weighed_kind true = body.Weighted
+weighed_kind false = body.Mixed
+
+abbrev body_kind : Body → BodyKind
+body_kind (normal ls) = body.Normal
+body_kind (weighted b ps) = weighed_kind (one_signed (map (λ (q : Weighed). q.literal) ps))
+
+kind_choice : (h : Head) → is_choice (head_kind h) ≡ chosen h
+unfolding is_choice
+kind_choice constraint = refl
+kind_choice (plain a) = refl
+kind_choice (choice hs) = refl
+
+kind_weighted : (b : Body) → is_weighted (body_kind b) ≡ weighs b
+unfolding is_weighted
+kind_weighted (normal ls) = refl
+kind_weighted (weighted b ps) = go (one_signed (map (λ (q : Weighed). q.literal) ps))
+  where
+    go : (c : Bool) → is_weighted (weighed_kind c) ≡ true
+    go true = refl
+    go false = refl
+
+kind_mixed : (b : Body) → weighs b ≡ true → is_mixed (body_kind b) ≡ not (one_signed (body_list b))
+unfolding is_mixed
+kind_mixed (normal ls) e = let z : ◌≡◌ {A = ℕ} 0 1 = cc in absurd (omega arith)
+kind_mixed (weighted b ps) e = go (one_signed (map (λ (q : Weighed). q.literal) ps))
+  where
+    go : (c : Bool) → is_mixed (weighed_kind c) ≡ not c
+    go true = refl
+    go false = refl
 
 abbrev row_of : ℕ → (r : Rule) → RuleIn 1024 r → Row
-row_of i r p = record { a = row_kind r; b = i; c = length (head_list r.head); d = length (body_list r.body) }
+row_of i r p = record { head = head_kind r.head; body = body_kind r.body; first = i; heads = length (head_list r.head); literals = length (body_list r.body) }
 
 head_length : (h : Head) → length (head_list h) ≡ head_size h
 head_length constraint = refl
@@ -240,10 +254,10 @@ atoms_at_lem xs hs zs =
     let ls : literals_at (xs ++ (map pos hs ++ zs)) (length xs) (length hs) ≡ map pos hs = rw (length_map pos hs) at (list_at (pos 0) xs (map pos hs) zs) in
     sym (map_span named (λ (j : ℕ). get_or (xs ++ (map pos hs ++ zs)) j (pos 0)) (length xs) (length hs)) ∙ ap (map named) ls ∙ named_pos hs
 
-head_back : (h : Head) (w m : Bool) (xs zs : List ℤ) (d : ℕ) → head_at (xs ++ (map pos (head_list h) ++ zs)) (record { a = kind_of (chosen h) w m; b = length xs; c = length (head_list h); d = d }) ≡ h
-head_back constraint w m xs zs d = rw (kind_choice false w m, atoms_at_lem xs [] zs)
-head_back (plain a) w m xs zs d = rw (kind_choice false w m, atoms_at_lem xs (a ∷ []) zs)
-head_back (choice hs) w m xs zs d = rw (kind_choice true w m, atoms_at_lem xs hs zs)
+head_back : (h : Head) (w : BodyKind) (xs zs : List ℤ) (d : ℕ) → head_at (xs ++ (map pos (head_list h) ++ zs)) (record { head = head_kind h; body = w; first = length xs; heads = length (head_list h); literals = d }) ≡ h
+head_back constraint w xs zs d = rw (kind_choice constraint, atoms_at_lem xs [] zs)
+head_back (plain a) w xs zs d = rw (kind_choice (plain a), atoms_at_lem xs (a ∷ []) zs)
+head_back (choice hs) w xs zs d = rw (kind_choice (choice hs), atoms_at_lem xs hs zs)
 
 -- a weighted body after the literals `before`
 module _ (before : List ℤ) (b : ℕ) (ps : List Weighed) (zs : List ℤ) where
@@ -309,23 +323,20 @@ module _ (xs : List ℤ) (r : Rule) (zs : List ℤ) (p : RuleIn 1024 r) where
   literals_there = rw (by_body, ← body_place) (list_at (pos 0) (xs ++ hs) (body_list r.body) (body_tail r.body ++ zs))
 
   head_there : head_at among (row_of (length xs) r p) ≡ r.head
-  head_there = rw by_head (head_back r.head (weighs r.body) (not (one_signed (body_list r.body))) xs after (length (body_list r.body)))
+  head_there = rw by_head (head_back r.head (body_kind r.body) xs after (length (body_list r.body)))
 
   rule_back : rule_at among (row_of (length xs) r p) ≡ r
-  rule_back = rw (head_there, kind_weighted (chosen r.head) (weighs r.body) (not (one_signed (body_list r.body))), body_there)
+  rule_back = rw (head_there, kind_weighted r.body, body_there)
 
   row_formed : RowIn among (row_of (length xs) r p)
   row_formed =
       let long = length-append xs (rule_laid r ++ zs) in
       let part = length-append (rule_laid r) zs in
-      let m : Bool = not (one_signed (body_list r.body)) in
       record {
         inside = omega (arith, long, part, laid_sizes r);
-        single = λ q. head_single r.head (sym (kind_choice (chosen r.head) (weighs r.body) m) ∙ q);
-        weighed = λ q. let w : weighs r.body ≡ true = sym (kind_weighted (chosen r.head) (weighs r.body) m) ∙ q in omega (arith, long, part, laid_sizes r, rw w at (tail_length r.body));
-        signed = λ q.
-            let w : weighs r.body ≡ true = sym (kind_weighted (chosen r.head) (weighs r.body) m) ∙ q in
-            kind_mixed (chosen r.head) (weighs r.body) m w ∙ ap (λ (ls : List ℤ). not (one_signed ls)) (sym literals_there);
+        single = λ q. head_single r.head (sym (kind_choice r.head) ∙ q);
+        weighed = λ q. let w : weighs r.body ≡ true = sym (kind_weighted r.body) ∙ q in omega (arith, long, part, laid_sizes r, rw w at (tail_length r.body));
+        signed = λ q. let w : weighs r.body ≡ true = sym (kind_weighted r.body) ∙ q in kind_mixed r.body w ∙ ap (λ (ls : List ℤ). not (one_signed ls)) (sym literals_there);
       }
 
 -- ---- symbols: where the name lies in the text w, and the condition
@@ -334,8 +345,8 @@ abbrev condition_laid : Symbol → List ℤ
 condition_laid y = y.condition
 
 module _ (w : List ℕ) where
-  abbrev symbol_row : ℕ → (y : Symbol) → NameLies w y → Row
-  symbol_row i y p = record { a = length p.before; b = length y.name; c = i; d = length y.condition }
+  abbrev put_symbol : ℕ → (y : Symbol) → NameLies w y → SymbolRow
+  put_symbol i y p = record { name = length p.before; length = length y.name; condition = i; literals = length y.condition }
 
   name_inside : (y : Symbol) (p : NameLies w y) → length p.before + length y.name ≤ length w
   name_inside y p = omega (arith, ap length p.is, length-append p.before (y.name ++ p.after), length-append y.name p.after)
@@ -346,7 +357,7 @@ module _ (w : List ℕ) where
       ap (λ (v : List ℕ). v ++ t) p.is ∙ append_assoc p.before (y.name ++ p.after) t ∙ rw (append_assoc y.name p.after t) in
       rw e (list_at 0 p.before y.name (p.after ++ t))
 
-  symbol_back : (t : List ℕ) (xs : List ℤ) (y : Symbol) (zs : List ℤ) (p : NameLies w y) → symbol_at (w ++ t) (xs ++ (y.condition ++ zs)) (symbol_row (length xs) y p) ≡ y
+  symbol_back : (t : List ℕ) (xs : List ℤ) (y : Symbol) (zs : List ℤ) (p : NameLies w y) → symbol_at (w ++ t) (xs ++ (y.condition ++ zs)) (put_symbol (length xs) y p) ≡ y
   symbol_back t xs y zs p = rw (name_back y p t, list_at (pos 0) xs y.condition zs)
 
 -- ---- the tables of a program P and its text w
@@ -375,13 +386,11 @@ module _ (P : Program) (w : List ℕ) (good : Good P) (short : length w ≤ 6553
       record {
         text = padded 0 65537 w;
         pool = padded (pos 0) 37889 (laid rule_laid P.rules);
-        rules = table (RuleIn 1024) rule_laid row_of 8196 P.rules atoms_in_lem;
-        priorities = padded (pos 0) 1536 (map (λ (e : Entry). e.priority) P.entries);
-        literals = padded (pos 0) 1536 (map (λ (e : Entry). e.literal) P.entries);
-        weights = padded (pos 0) 1536 (map (λ (e : Entry). e.weight) P.entries);
+        rules = table (RuleIn 1024) rule_laid row_of no_row 2049 P.rules atoms_in_lem;
+        entries = padded no_entry 1536 P.entries;
         levels = padded (pos 0) 9 P.priorities;
         conditions = padded (pos 0) 3072 (laid condition_laid P.symbols);
-        symbols = table (NameLies w) condition_laid (symbol_row w) 2052 P.symbols names;
+        symbols = table (NameLies w) condition_laid (put_symbol w) no_symbol 513 P.symbols names;
         counts = counts;
       }
 
@@ -389,16 +398,16 @@ module _ (P : Program) (w : List ℕ) (good : Good P) (short : length w ≤ 6553
   witness_text = list_front 0 w _
 
   rules_is : (stored_program witness).rules ≡ P.rules
-  rules_is = table_back (RuleIn 1024) rule_laid row_of 8196 P.rules atoms_in_lem rule_at rule_back _
+  rules_is = table_back (RuleIn 1024) rule_laid row_of no_row 2049 P.rules atoms_in_lem rule_at rule_back _
 
   levels_is : (stored_program witness).priorities ≡ P.priorities
   levels_is = list_front (pos 0) P.priorities _
 
   entries_is : (stored_program witness).entries ≡ P.entries
-  entries_is = entries_front P.entries _ _ _
+  entries_is = list_front no_entry P.entries _
 
   symbols_is : (stored_program witness).symbols ≡ P.symbols
-  symbols_is = table_back (NameLies w) condition_laid (symbol_row w) 2052 P.symbols names (symbol_at witness.text) (symbol_back w _) _
+  symbols_is = table_back (NameLies w) condition_laid (put_symbol w) no_symbol 513 P.symbols names (symbol_at witness.text) (symbol_back w _) _
 
   witness_program : stored_program witness ≡ P
   witness_program = rw (rules_is, levels_is, entries_is, symbols_is)
@@ -410,31 +419,26 @@ module _ (P : Program) (w : List ℕ) (good : Good P) (short : length w ≤ 6553
   conditions_used : length (laid condition_laid P.symbols) ≡ sum condition_size P.symbols
   conditions_used = laid_length condition_laid condition_size (λ y. refl) P.symbols
 
-  entry_table : {A : Type 0} (d : A) (f : Entry → A) → length (padded d 1536 (map f P.entries)) ≡ 1536
-  entry_table d f = padded_length d 1536 (map f P.entries) (omega (arith, length_map f P.entries, within.entries))
-
   sized : Sized (lists_of witness)
   sized =
       record {
         text = padded_length 0 65537 w (omega arith);
         pool = padded_length (pos 0) 37889 (laid rule_laid P.rules) (omega (arith, rules_few P.rules, within.used, within.rules));
-        rules = table_length (RuleIn 1024) rule_laid row_of 8196 P.rules atoms_in_lem (omega (arith, within.rules));
-        priorities = entry_table (pos 0) (λ (e : Entry). e.priority);
-        literals = entry_table (pos 0) (λ (e : Entry). e.literal);
-        weights = entry_table (pos 0) (λ (e : Entry). e.weight);
+        rules = table_length (RuleIn 1024) rule_laid row_of no_row 2049 P.rules atoms_in_lem (omega (arith, within.rules));
+        entries = padded_length no_entry 1536 P.entries (omega (arith, within.entries));
         levels = padded_length (pos 0) 9 P.priorities (omega (arith, within.levels));
         conditions = padded_length (pos 0) 3072 (laid condition_laid P.symbols) (omega (arith, conditions_used, within.conditions));
-        symbols = table_length (NameLies w) condition_laid (symbol_row w) 2052 P.symbols names (omega (arith, within.symbols));
+        symbols = table_length (NameLies w) condition_laid (put_symbol w) no_symbol 513 P.symbols names (omega (arith, within.symbols));
       }
 
   row_in : (j : ℕ) → j < length P.rules → RowIn witness.pool (row_at witness.rules j)
-  row_in = table_hold (RuleIn 1024) rule_laid row_of 8196 P.rules atoms_in_lem RowIn row_formed _
+  row_in = table_hold (RuleIn 1024) rule_laid row_of no_row 2049 P.rules atoms_in_lem RowIn row_formed _
 
-  abbrev SymbolIn : Row → Type 0
-  SymbolIn r = (r.a + r.b ≤ length w) × (r.c + r.d ≤ sum condition_size P.symbols)
+  abbrev SymbolIn : SymbolRow → Type 0
+  SymbolIn r = (r.name + r.length ≤ length w) × (r.condition + r.literals ≤ sum condition_size P.symbols)
 
-  symbol_in : (j : ℕ) → j < length P.symbols → SymbolIn (row_at witness.symbols j)
-  symbol_in = table_all (NameLies w) condition_laid (symbol_row w) 2052 P.symbols names SymbolIn (sum condition_size P.symbols) (λ i y p l. (name_inside w y p, l)) (omega (arith, conditions_used))
+  symbol_in : (j : ℕ) → j < length P.symbols → SymbolIn (symbol_row witness.symbols j)
+  symbol_in = table_all (NameLies w) condition_laid (put_symbol w) no_symbol 513 P.symbols names SymbolIn (sum condition_size P.symbols) (λ i y p l. (name_inside w y p, l)) (omega (arith, conditions_used))
 
   named_in : ProgramIn (atoms P) (stored_program witness)
   named_in = subst (ProgramIn (atoms P)) (sym witness_program) (program_in P good.fine.atoms)

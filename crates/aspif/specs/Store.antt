@@ -2,8 +2,9 @@
 use Rattle.std.specs.Prelude.{◌≡◌, List, ℕ, ◌+◌, ◌≤◌, ◌<◌, eqb, nat_abs, length, Option, Some, None, Result, Ok, Err}
 use Rattle.std.specs.Borrow.{Bor}
 use Rattle.asp.specs.Sets.{pick}
-use Rattle.asp.specs.Program.{Weighed, Body, normal, weighted, Rule, Entry, Program, atoms, All, ProgramIn}
-use Rattle.asp.specs.Tables.{row_at, program_of, Formed}
+use Rattle.asp.specs.declared.entries.Entry.{Entry}
+use Rattle.asp.specs.Program.{Weighed, Body, normal, weighted, Rule, Program, atoms, All, ProgramIn}
+use Rattle.asp.specs.Tables.{symbol_row, program_of, Formed}
 use Rattle.aspif_fields.specs.Refusals.{refusal_number}
 use Rattle.aspif_fields.specs.declared.refusal.Refusal.TheVariants.{Malformed, PastLimit}
 use Rattle.aspif_lines.specs.Text.{sum, rule_size, limits, Answer, accepted, refused, lines, pieces}
@@ -81,4 +82,4 @@ pub record WellFormed (p : Stored) : Type 0 where
   pub weights : All (λ (e : Entry). nat_abs e.weight ≤ 1000000) (stored_program p).entries
   pub bodies : All (λ (r : Rule). BodyWeighs r.body) (stored_program p).rules
   pub levels : Descending (stored_program p).priorities
-  pub symbols : (j : ℕ) → j < p.counts.symbols → ((row_at p.symbols j).a + (row_at p.symbols j).b ≤ p.counts.text) × ((row_at p.symbols j).c + (row_at p.symbols j).d ≤ p.counts.conditions)
+  pub symbols : (j : ℕ) → j < p.counts.symbols → ((symbol_row p.symbols j).name + (symbol_row p.symbols j).length ≤ p.counts.text) × ((symbol_row p.symbols j).condition + (symbol_row p.symbols j).literals ≤ p.counts.conditions)

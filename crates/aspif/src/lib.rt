@@ -3,5 +3,6 @@
 
 pub mod text; // the lines in order, the whole text
 pub mod write; // the stored text, into a lent buffer
+pub mod lent; // the stored tables, as `asp` reads them
 
 pub use aspif_tables::table::Counts;

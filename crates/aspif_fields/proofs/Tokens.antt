@@ -219,6 +219,7 @@ number_leaves lo hi l = go (token l) (token_leaves l)
     in_range : (b : Bool) (v : ℕ) (r : List ℕ) → Ending r l → Leaves l (pick b (got v r) (bad 4))
     in_range true v r h = h
     in_range false v r h = tt
+
     go : (t : Read ℕ) → Leaves l t → Leaves l (bind t (ranged lo hi))
     go (got v r) h = in_range (within lo hi v) v r h
     go (bad c) h = tt
@@ -230,6 +231,7 @@ natural_leaves lo hi l = go (eqb (next l) 32)
     up : (n : Read ℕ) → Leaves (drop 1 l) n → Leaves l n
     up (got v r) h = ending_drop 1 r l h
     up (bad c) h = tt
+
     go : (b : Bool) → Leaves l (pick b (number lo hi (drop 1 l)) (bad 2))
     go true = up (number lo hi (drop 1 l)) (number_leaves lo hi (drop 1 l))
     go false = tt

@@ -1,8 +1,9 @@
 -- What the fields of a line are: numbers, atoms and literals, how a rule opens, pairs of literal and weight.
 -- Document 01, "The text" and "Refused because of what was handed in", and orders 1 and 2 of document 02: their sentences stand here as comments. Assumes nothing: these are definitions.
 use Rattle.std.specs.Prelude.{Bool, true, false, not, ◌&&◌, List, [], ◌∷◌, ℕ, ◌+◌, ◌-◌, ◌*◌, leb, ltb, eqb, ℤ, pos, neg_ℤ, nat_abs, length, get_or, drop}
+use Rattle.asp.specs.declared.entries.Entry.{Entry}
 use Rattle.asp.specs.Sets.{pick}
-use Rattle.asp.specs.Program.{Literal, Weighed, Entry}
+use Rattle.asp.specs.Program.{Literal, Weighed}
 
 -- Reading in a line gives a value and what follows it in the line, or the number of a refusal.
 pub data Read (A : Type 0) : Type 0 where

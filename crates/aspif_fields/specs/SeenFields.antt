@@ -1,6 +1,7 @@
 -- What the answers of the readers of fields mean, with what they leave of the line. Assumes nothing: these are definitions.
 use Rattle.std.specs.Prelude.{◌≡◌, List, ℕ, ◌-◌, ◌≤◌, min, ℤ, pos, negsuc, nat_abs, length, drop, Option, Some, None, Result, Ok, Err}
-use Rattle.asp.specs.Program.{Weighed, Entry}
+use Rattle.asp.specs.declared.entries.Entry.{Entry}
+use Rattle.asp.specs.Program.{Weighed}
 use Rattle.aspif_fields.specs.Fields.{Read, got, bad, Opening}
 use Rattle.aspif_fields.specs.Refusals.{refusal_number}
 use Rattle.aspif_fields.specs.declared.refusal.Refusal.{Refusal}

@@ -15,11 +15,11 @@ use Rattle.std.specs.Ordering.{int_eq}
 use Rattle.std.specs.List.{list_any}
 use Rattle.asp.specs.Literal.{same_ℤ, occurs_among, one_signed}
 use Rattle.asp.specs.Program.{Weighed, weighted, highest, All, LiteralIn}
-use Rattle.asp.specs.Tables.{span, literals_at, pair_at, pairs_at}
+use Rattle.asp.specs.Tables.{span, literals_at, pair_at, pairs_at, is_weighted, is_mixed}
 use Rattle.aspif_fields.specs.Fields.{got, weighed_field}
 use Rattle.aspif_lines.specs.Text.{more}
-use Rattle.aspif_lines.specs.declared.body.BodyKind.{BodyKind}
-use Rattle.aspif_lines.specs.Seen.{is_weighed, is_both_signed, Kept, body_from, BodyGood}
+use Rattle.asp.specs.declared.rules.BodyKind.{BodyKind}
+use Rattle.aspif_lines.specs.Seen.{Kept, body_from, BodyGood}
 use Rattle.aspif_lines.proofs.Readings.{pairs_small}
 use Rattle.aspif_lines.proofs.Spans.{span_shift, span_snoc, literals_at_push, literals_at_kept, kept_refl, kept_set, highest_span}
 
@@ -138,7 +138,7 @@ module _ {pool₀ pool : List ℤ} {u : ℕ} (k : ℕ) (kept : Kept (pos 0) u po
   pub bounded_body : (v : ℕ) → body_from (set pool (u + k) (pos v)) true u k ≡ weighted v (pairs_at pool (k + 1) u k)
   bounded_body v = rw (bound_there pool k u (pos v) inside, pairs_bounded pool k u (pos v) inside)
 
-  pub bounded_good : {b : BodyKind} {top t : ℕ} (v n : ℕ) → n ≡ k → is_weighed b ≡ true → is_both_signed b ≡ not (one_signed (take n (drop u (set pool (u + k) (pos v))))) → t ≡ max top (highest nat_abs (literals_at pool u k)) → BodyGood (set pool (u + k) (pos v)) u top (record { kind = b; count = k; top = t })
+  pub bounded_good : {b : BodyKind} {top t : ℕ} (v n : ℕ) → n ≡ k → is_weighted b ≡ true → is_mixed b ≡ not (one_signed (take n (drop u (set pool (u + k) (pos v))))) → t ≡ max top (highest nat_abs (literals_at pool u k)) → BodyGood (set pool (u + k) (pos v)) u top (record { kind = b; count = k; top = t })
   bounded_good {b} v n q w s e =
       record {
         few = few;

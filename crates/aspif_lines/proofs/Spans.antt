@@ -1,7 +1,7 @@
 -- Parts of tables, and lists read one by one. Assumes nothing.
 use mathlib.Core.Path.{◌≡◌, refl, ap, ◌∙◌}
 use mathlib.Core.List.{List, [], ◌∷◌, ◌++◌}
-use Prim.Native.Nat.{ℕ, zero, suc, ◌+◌, ◌-◌, ◌*◌, ◌<◌, ◌≤◌, max}
+use Prim.Native.Nat.{ℕ, zero, suc, ◌+◌, ◌-◌, ◌<◌, ◌≤◌, max}
 use native.Mathlib.Omega.{arith}
 use native.Mathlib.Nat.{sub-zero}
 use lib.IntN.{ℤ, pos}
@@ -10,8 +10,9 @@ use lib.Seq.{get_or-set_same, get_or-set_other}
 use Rattle.asp.specs.Program.{highest}
 use Rattle.aspif_fields.specs.Fields.{Read, got, bad}
 use Rattle.aspif_lines.specs.Text.{more}
-use Rattle.asp.specs.Tables.{entry_at, span, literals_at}
-use Rattle.aspif_lines.specs.Seen.{Pushed, entries_at, bytes_at, Kept}
+use Rattle.asp.specs.declared.entries.Entry.{Entry}
+use Rattle.asp.specs.Tables.{no_entry, entry_at, span, literals_at}
+use Rattle.aspif_lines.specs.Seen.{entries_at, bytes_at, Kept}
 
 pub append_nil : {A : Type 0} (xs : List A) → xs ++ [] ≡ xs
 append_nil [] = refl
@@ -82,47 +83,12 @@ module _ {A : Type 0} {f : List ℕ → Read A} {k : ℕ} {l₀ : List ℕ} wher
   more_done {i} h q = let s : k - i ≡ 0 = omega arith in rw s at h.left
 
 -- one more entry
-pub entries_push : (ps ls ws : List ℤ) (i k : ℕ) (p z w : ℤ) → i + k < length ps → i + k < length ls → i + k < length ws
-    → entries_at (set ps (i + k) p) (set ls (i + k) z) (set ws (i + k) w) i (k + 1) ≡ entries_at ps ls ws i k ++ (record { priority = p; literal = z; weight = w } ∷ [])
-entries_push ps ls ws i k p z w f g h =
-    rw (
-      span_snoc (entry_at (set ps (i + k) p) (set ls (i + k) z) (set ws (i + k) w)) i k,
-      get_or-set_same ps (i + k) p (pos 0) f,
-      get_or-set_same ls (i + k) z (pos 0) g,
-      get_or-set_same ws (i + k) w (pos 0) h,
-      span_same (entry_at (set ps (i + k) p) (set ls (i + k) z) (set ws (i + k) w)) (entry_at ps ls ws) i k (λ j l. rw (get_or-set_other ps (i + k) j p (pos 0) (omega arith), get_or-set_other ls (i + k) j z (pos 0) (omega arith), get_or-set_other ws (i + k) j w (pos 0) (omega arith))),
-    )
+pub entries_push : (es : List Entry) (i k : ℕ) (e : Entry) → i + k < length es → entries_at (set es (i + k) e) i (k + 1) ≡ entries_at es i k ++ (e ∷ [])
+entries_push es i k e h =
+    rw (span_snoc (entry_at (set es (i + k) e)) i k, get_or-set_same es (i + k) e no_entry h, span_same (entry_at (set es (i + k) e)) (entry_at es) i k (λ j l. get_or-set_other es (i + k) j e no_entry (omega arith)))
 
 pub bytes_at_push : (s : List ℕ) (i k : ℕ) → bytes_at s i (k + 1) ≡ bytes_at s i k ++ (get_or s (i + k) 0 ∷ [])
 bytes_at_push s i k = span_snoc (λ (j : ℕ). get_or s j 0) i k
-
--- four numbers stored as a row
-pub push_row : (t : List ℕ) (n a b c d : ℕ) → n * 4 + 4 ≤ length t
-    → Pushed n (record { a = a; b = b; c = c; d = d }) t (set (set (set (set t (n * 4) a) (n * 4 + 1) b) (n * 4 + 2) c) (n * 4 + 3) d)
-push_row t n a b c d h =
-    let i : ℕ = n * 4 in
-    let l1 = length-set t i a in
-    let l2 = length-set (set t i a) (i + 1) b in
-    let l3 = length-set (set (set t i a) (i + 1) b) (i + 2) c in
-    let l4 = length-set (set (set (set t i a) (i + 1) b) (i + 2) c) (i + 3) d in
-    let low : (k : ℕ) → k < i → get_or (set (set (set (set t i a) (i + 1) b) (i + 2) c) (i + 3) d) k 0 ≡ get_or t k 0 =
-    λ k m. get_or-set_other (set (set (set t i a) (i + 1) b) (i + 2) c) (i + 3) k d 0 (omega arith) ∙ get_or-set_other (set (set t i a) (i + 1) b) (i + 2) k c 0 (omega arith) ∙ get_or-set_other (set t i a) (i + 1) k b 0 (omega arith) ∙ get_or-set_other t i k a 0 (omega arith) in
-    record {
-      kept = λ j m. rw (low (j * 4) (omega arith), low (j * 4 + 1) (omega arith), low (j * 4 + 2) (omega arith), low (j * 4 + 3) (omega arith));
-      here = rw (
-        get_or-set_other (set (set (set t i a) (i + 1) b) (i + 2) c) (i + 3) i d 0 (omega arith),
-        get_or-set_other (set (set t i a) (i + 1) b) (i + 2) i c 0 (omega arith),
-        get_or-set_other (set t i a) (i + 1) i b 0 (omega arith),
-        get_or-set_same t i a 0 (omega arith),
-        get_or-set_other (set (set (set t i a) (i + 1) b) (i + 2) c) (i + 3) (i + 1) d 0 (omega arith),
-        get_or-set_other (set (set t i a) (i + 1) b) (i + 2) (i + 1) c 0 (omega arith),
-        get_or-set_same (set t i a) (i + 1) b 0 (omega arith),
-        get_or-set_other (set (set (set t i a) (i + 1) b) (i + 2) c) (i + 3) (i + 2) d 0 (omega arith),
-        get_or-set_same (set (set t i a) (i + 1) b) (i + 2) c 0 (omega arith),
-        get_or-set_same (set (set (set t i a) (i + 1) b) (i + 2) c) (i + 3) d 0 (omega arith),
-      );
-      long = l4 ∙ l3 ∙ l2 ∙ l1;
-    }
 
 -- the highest atom of a list with one more at its end
 pub highest_snoc : {A : Type 0} (f : A → ℕ) (xs : List A) (x : A) → highest f (xs ++ (x ∷ [])) ≡ max (highest f xs) (f x)

@@ -1,14 +1,16 @@
 -- What the answers of the code's readers mean. Assumes nothing: these are definitions.
 use Rattle.std.specs.Prelude.{◌≡◌, Bool, true, false, not, List, [], ◌∷◌, map, ℕ, ◌+◌, ◌≤◌, ◌<◌, max, ℤ, pos, nat_abs, length, get_or, Result, IfOk}
+use Rattle.asp.specs.declared.rules.HeadKind.{HeadKind}
+use Rattle.asp.specs.declared.rules.BodyKind.{BodyKind}
+use Rattle.asp.specs.declared.rules.Row.{Row}
+use Rattle.asp.specs.declared.entries.Entry.{Entry}
 use Rattle.asp.specs.Sets.{pick}
 use Rattle.asp.specs.Literal.{one_signed}
-use Rattle.asp.specs.Program.{Body, normal, weighted, Rule, Entry, Symbol, highest, body_atoms, rule_atoms}
-use Rattle.asp.specs.Tables.{span, literals_at, is_choice, is_weighted, is_mixed, pairs_at, rule_at, entry_at, Row, row_at, named}
+use Rattle.asp.specs.Program.{Body, normal, weighted, Rule, Symbol, highest, body_atoms, rule_atoms}
+use Rattle.asp.specs.Tables.{span, literals_at, is_choice, is_weighted, is_mixed, pairs_at, rule_at, entry_at, named}
 use Rattle.aspif_fields.specs.SeenFields.{read}
 use Rattle.aspif_fields.specs.declared.refusal.Refusal.{Refusal}
 use Rattle.aspif_lines.specs.Text.{member_field, Minimise, pieces}
-use Rattle.aspif_lines.specs.declared.body.BodyKind.{BodyKind}
-use Rattle.aspif_lines.specs.declared.body.BodyKind.TheVariants.{Normal, Weighted, Mixed}
 use Rattle.aspif_lines.specs.declared.body.BodyPart.{BodyPart}
 use Rattle.aspif_lines.specs.declared.rule.RuleLine.{RuleLine}
 use Rattle.aspif_lines.specs.declared.minimise.MinimiseLine.{MinimiseLine}
@@ -36,60 +38,43 @@ pub record Positive (ls : List ℤ) : Type 0 where
 abbrev pub body_from : List ℤ → Bool → ℕ → ℕ → Body
 body_from pool w i k = pick w (weighted (nat_abs (get_or pool (i + k) (pos 0))) (pairs_at pool (k + 1) i k)) (normal (literals_at pool i k))
 
--- whether it is weighted, and then whether some atom stands with both signs
-abbrev pub is_weighed : BodyKind → Bool
-is_weighed Normal = false
-is_weighed Weighted = true
-is_weighed Mixed = true
-
-abbrev pub is_both_signed : BodyKind → Bool
-is_both_signed Normal = false
-is_both_signed Weighted = false
-is_both_signed Mixed = true
-
 -- the body that stands in the pool from i on
 abbrev pub body_in : List ℤ → ℕ → BodyPart → Body
-body_in pool i b = body_from pool (is_weighed b.kind) i b.count
+body_in pool i b = body_from pool (is_weighted b.kind) i b.count
 
 -- how many literals it has, whether some atom of a weighted one stands with both signs, and the highest atom so far
 pub record BodyGood (pool : List ℤ) (i top : ℕ) (b : BodyPart) : Type 0 where
   pub few : b.count ≤ 1024
-  pub signed : is_weighed b.kind ≡ true → is_both_signed b.kind ≡ not (one_signed (literals_at pool i b.count))
+  pub signed : is_weighted b.kind ≡ true → is_mixed b.kind ≡ not (one_signed (literals_at pool i b.count))
   pub atoms : b.top ≡ max top (body_atoms (body_in pool i b))
 
--- a row's kind: whether it is a choice, whether its body is weighted, and then whether some atom stands with both signs
-abbrev pub kind_of : Bool → Bool → Bool → ℕ
-kind_of false false m = 0
-kind_of true false m = 1
-kind_of false true false = 2
-kind_of true true false = 3
-kind_of false true true = 4
-kind_of true true true = 5
-
 -- the row of a rule whose m head atoms and k body literals stand in the pool from i on
-abbrev pub rule_row : ℕ → ℕ → ℕ → ℕ → Row
-rule_row kind i m k = record { a = kind; b = i; c = m; d = k }
+abbrev pub rule_row : HeadKind → BodyKind → ℕ → ℕ → ℕ → Row
+rule_row h b i m k = record { head = h; body = b; first = i; heads = m; literals = k }
 
--- the rule that stands in the pool from i on
-abbrev pub rule_in : List ℤ → ℕ → RuleLine → Rule
-rule_in pool i r = rule_at pool (rule_row r.kind i r.heads r.body)
+-- the rule whose row was read
+abbrev pub rule_in : List ℤ → RuleLine → Rule
+rule_in pool r = rule_at pool r.row
 
--- a row that is small and says what it has to, and the highest atom so far
-pub record RuleGood (pool : List ℤ) (r : Row) (top t : ℕ) : Type 0 where
-  pub kind : r.a ≤ 5
-  pub heads : r.c ≤ 1024
-  pub body : r.d ≤ 1024
-  pub single : is_choice r.a ≡ false → r.c ≤ 1
-  pub signed : is_weighted r.a ≡ true → is_mixed r.a ≡ not (one_signed (literals_at pool (r.b + r.c) r.d))
-  pub atoms : t ≡ max top (rule_atoms (rule_at pool r))
+-- its row is small, stands in the pool from i on and says what it has to, and the highest atom so far
+pub record RuleGood (pool : List ℤ) (i top : ℕ) (r : RuleLine) : Type 0 where
+  pub first : r.row.first ≡ i
+  pub heads : r.row.heads ≤ 1024
+  pub literals : r.row.literals ≤ 1024
+  pub single : is_choice r.row.head ≡ false → r.row.heads ≤ 1
+  pub signed : is_weighted r.row.body ≡ true → is_mixed r.row.body ≡ not (one_signed (literals_at pool (r.row.first + r.row.heads) r.row.literals))
+  pub atoms : r.top ≡ max top (rule_atoms (rule_at pool r.row))
 
--- ---- entries: a priority, a literal and a weight at each place of three tables
+-- ---- entries
 
-abbrev pub entries_at : List ℤ → List ℤ → List ℤ → ℕ → ℕ → List Entry
-entries_at ps ls ws i k = span (entry_at ps ls ws) i k
+abbrev pub entry_atom : Entry → ℕ
+entry_atom e = nat_abs e.literal
 
-abbrev pub minimise_in : List ℤ → List ℤ → List ℤ → ℕ → MinimiseLine → Minimise
-minimise_in ps ls ws i m = record { priority = m.priority; entries = entries_at ps ls ws i m.count }
+abbrev pub entries_at : List Entry → ℕ → ℕ → List Entry
+entries_at entries i k = span (entry_at entries) i k
+
+abbrev pub minimise_in : List Entry → ℕ → MinimiseLine → Minimise
+minimise_in entries i m = record { priority = m.priority; entries = entries_at entries i m.count }
 
 -- ---- symbols: the name is a part of the line, m bytes from i on
 
@@ -111,10 +96,3 @@ pub record SymbolSmall (n : ℕ) (l : SymbolLine) : Type 0 where
 abbrev pub follow : List ℕ → List (List ℕ)
 follow [] = []
 follow (b ∷ s) = pieces s
-
--- ---- rows: u is t with the row r put at n
-
-pub record Pushed (n : ℕ) (r : Row) (t u : List ℕ) : Type 0 where
-  pub kept : (j : ℕ) → j < n → row_at u j ≡ row_at t j
-  pub here : row_at u n ≡ r
-  pub long : length u ≡ length t

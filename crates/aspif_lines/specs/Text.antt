@@ -2,9 +2,10 @@
 -- Document 01, "The text" and "Refused because of what was handed in", and orders 1 and 2 of document 02: their sentences stand here, and in `aspif_fields`, as comments. Assumes nothing: these are definitions.
 use Rattle.std.specs.Prelude.{Bool, true, false, ◌&&◌, List, [], ◌∷◌, ◌++◌, map, ℕ, zero, suc, ◌+◌, leb, ltb, eqb, ℤ, length, drop}
 use Rattle.std.specs.Int.Signed.{lt_z}
+use Rattle.asp.specs.declared.entries.Entry.{Entry}
 use Rattle.asp.specs.Sets.{pick}
 use Rattle.asp.specs.Literal.{same_ℤ}
-use Rattle.asp.specs.Program.{Literal, Body, normal, weighted, Head, constraint, plain, choice, Rule, Entry, Symbol, Program}
+use Rattle.asp.specs.Program.{Literal, Body, normal, weighted, Head, constraint, plain, choice, Rule, Symbol, Program}
 use Rattle.asp.specs.Tables.{named, plain_head}
 use Rattle.aspif_fields.specs.Fields.{Read, got, bad, bind, next, within, nil, number, signed, field, natural, atom, literal, opening, weighed_field, pair}
 

@@ -2,25 +2,19 @@
 ghost use Rattle.std.specs.Prelude.{◌≡◌, ◌+◌, ◌≤◌, true, not, length, pos, IfOk};
 ghost use Rattle.asp.specs.Literal.{one_signed};
 ghost use Rattle.asp.specs.Program.{All, LiteralIn};
+ghost use Rattle.asp.specs.Tables.{is_weighted, is_mixed};
 ghost use Rattle.aspif_fields.specs.SeenFields.{read_as};
 ghost use Rattle.aspif_lines.specs.Text.{normal_body, weighted_body, body_field};
-ghost use Rattle.aspif_lines.specs.Seen.{is_weighed, is_both_signed, body_in, BodyGood, Kept};
+ghost use Rattle.aspif_lines.specs.Seen.{body_in, BodyGood, Kept};
 
 use super::members::read_members;
 use super::weighted::{is_one_signed, read_weights};
+use asp::rules::BodyKind;
 use aspif_fields::field::MOST_COUNT;
 use aspif_fields::refusal::Refusal;
 use aspif_fields::token::Rest;
 
 const MOST_BOUND: usize = 1000000000; // order 2: "Bound is 0 to 1,000,000,000"
-
-// What a body is: its literals, or, order 2, pairs, in which each atom stands with one sign, or some atom with both.
-#[derive(Clone, Copy, PartialEq, Eq, Debug)]
-pub enum BodyKind {
-    Normal,
-    Weighted,
-    Mixed,
-}
 
 // A body in the pool: how many literals it has, and the highest atom so far.
 #[derive(Clone, Copy, PartialEq, Eq, Debug)]
@@ -33,8 +27,8 @@ pub struct BodyPart {
 // Of a body with these literals and their weights.
 fn weighed_kind(literals: &[i32]) -> BodyKind
     requires { All (LiteralIn 1024) literals.now }
-    ensures weighed { is_weighed result ≡ true }
-    ensures signed { is_both_signed result ≡ not (one_signed literals.now) }
+    ensures weighed { is_weighted result ≡ true }
+    ensures signed { is_mixed result ≡ not (one_signed literals.now) }
 {
     if is_one_signed(literals) {
         BodyKind::Weighted

@@ -1,10 +1,14 @@
 // The sizes of the tables: document 01's limits, with room for one line beyond them, since the limits are judged after the line.
+use asp::entries::Entry;
+use asp::rules::Row;
+use asp::symbols::SymbolRow;
+
 pub const TEXT_ROOM: usize = 65536 + 1;
 
 // head atoms and body literals; order 2: a bound for each rule and a weight for each literal
 pub const POOL_ROOM: usize = 16384 * 2 + 2048 + 3073;
 
-pub const RULE_ROOM: usize = 4 * (2048 + 1); // a row of four numbers for each rule
+pub const RULE_ROOM: usize = 2048 + 1;
 
 pub const ENTRY_ROOM: usize = 512 + 1024;
 
@@ -12,22 +16,18 @@ pub const LEVEL_ROOM: usize = 8 + 1;
 
 pub const CONDITION_ROOM: usize = 2048 + 1024;
 
-pub const SYMBOL_ROOM: usize = 4 * (512 + 1); // a row of four numbers for each symbol
+pub const SYMBOL_ROOM: usize = 512 + 1;
 
 pub type Text = [u8; TEXT_ROOM];
 
 pub type Pool = [i32; POOL_ROOM];
 
-pub type Rules = [u16; RULE_ROOM];
+pub type Rules = [Row; RULE_ROOM];
 
-pub type Priorities = [i32; ENTRY_ROOM];
-
-pub type Literals = [i32; ENTRY_ROOM];
-
-pub type Weights = [i32; ENTRY_ROOM];
+pub type Entries = [Entry; ENTRY_ROOM];
 
 pub type Levels = [i32; LEVEL_ROOM];
 
 pub type Conditions = [i32; CONDITION_ROOM];
 
-pub type Symbols = [u16; SYMBOL_ROOM];
+pub type Symbols = [SymbolRow; SYMBOL_ROOM];

@@ -1,35 +1,32 @@
 // `1 h m atoms` and a body: a rule.
 ghost use Rattle.std.specs.Prelude.{◌≡◌, [], ◌+◌, ◌≤◌, true, length, pos, IfOk};
+ghost use Rattle.asp.specs.Tables.{is_choice};
 ghost use Rattle.aspif_fields.specs.SeenFields.{read_as};
 ghost use Rattle.aspif_lines.specs.Text.{rule_line};
-ghost use Rattle.aspif_lines.specs.Seen.{kind_of, is_weighed, is_both_signed, rule_in, RuleGood, rule_row, Kept};
+ghost use Rattle.aspif_lines.specs.Seen.{rule_in, RuleGood, Kept};
 
-use super::body::{BodyKind, read_body};
+use super::body::read_body;
 use super::members::{read_end, read_members};
 use super::room::Pool;
+use asp::rules::{HeadKind, Row};
 use aspif_fields::refusal::Refusal;
 use aspif_fields::token::Rest;
 
-// A row's kind (asp::table).
-fn kind_of(choice: bool, body: BodyKind) -> usize
-    ensures { result ≡ kind_of choice (is_weighed body) (is_both_signed body) }
+// What a rule's head is: a choice, or no more than one atom.
+fn head_kind(choice: bool) -> HeadKind
+    ensures { is_choice result ≡ choice }
 {
-    match (choice, body) {
-        (false, BodyKind::Normal) => 0,
-        (true, BodyKind::Normal) => 1,
-        (false, BodyKind::Weighted) => 2,
-        (true, BodyKind::Weighted) => 3,
-        (false, BodyKind::Mixed) => 4,
-        (true, BodyKind::Mixed) => 5,
+    if choice {
+        HeadKind::Choice
+    } else {
+        HeadKind::Plain
     }
 }
 
-// A rule of a row's kind, its head atoms and then its body in the pool, and the highest atom so far.
+// A rule by its row: its head atoms and then its body in the pool. The highest atom so far.
 #[derive(Clone, Copy, PartialEq, Eq, Debug)]
 pub struct RuleLine {
-    pub kind: usize,
-    pub heads: usize,
-    pub body: usize,
+    pub row: Row,
     pub top: usize,
 }
 
@@ -41,8 +38,8 @@ pub fn read_rule(
     start: usize,
 ) -> Result<RuleLine, Refusal>
     requires { used + 3073 ≤ length pool.old }
-    ensures answer { read_as (rule_in pool.new used) result [] ≡ rule_line rest.old.bytes.now }
-    ensures good { IfOk result (λ r. RuleGood pool.new (rule_row r.kind used r.heads r.body) start r.top) }
+    ensures answer { read_as (rule_in pool.new) result [] ≡ rule_line rest.old.bytes.now }
+    ensures good { IfOk result (RuleGood pool.new used start) }
     ensures kept { Kept (pos 0) used pool.old pool.new }
 {
     let opening = rest.read_opening()?;
@@ -50,11 +47,12 @@ pub fn read_rule(
     let highest = read_members(rest, |rest| rest.read_atom(), heads, pool, used, start)?;
     let body = read_body(rest, pool, used + heads, highest)?;
     read_end(rest)?;
-    let kind = kind_of(opening.choice, body.kind);
-    Ok(RuleLine {
-        kind,
-        heads,
-        body: body.count,
-        top: body.top,
-    })
+    let row = Row {
+        head: head_kind(opening.choice),
+        body: body.kind,
+        first: used as u16,
+        heads: heads as u16,
+        literals: body.count as u16,
+    };
+    Ok(RuleLine { row, top: body.top })
 }

@@ -7,11 +7,14 @@ use native.Mathlib.Omega.{arith}
 use lib.IntN.{ℤ, nat_abs}
 use lib.ListN.{length, get_or}
 use borrow.Author.Tests.{ne_eqb}
-use Rattle.asp.specs.Program.{Rule, Entry, Symbol, highest, rule_atoms}
-use Rattle.asp.specs.Tables.{literals_at, row_at, symbol_at, symbols_of, program_of}
+use Rattle.asp.specs.declared.rules.Row.{Row}
+use Rattle.asp.specs.declared.entries.Entry.{Entry}
+use Rattle.asp.specs.declared.symbols.SymbolRow.{SymbolRow}
+use Rattle.asp.specs.Program.{Rule, Symbol, highest, rule_atoms}
+use Rattle.asp.specs.Tables.{literals_at, symbol_row, symbol_at, symbols_of, program_of}
 use Rattle.aspif_fields.specs.Fields.{Read, got, bad, bind, nil, number}
 use Rattle.aspif_lines.specs.Text.{rule_line, minimise_line, symbol_line, Minimise, rule, minimise, symbol, comment, final, of_kind, statement, line, led, stepped_line, stop}
-use Rattle.aspif_lines.specs.Seen.{bytes_at, Kept}
+use Rattle.aspif_lines.specs.Seen.{entry_atom, bytes_at, Kept}
 use Rattle.aspif_tables.specs.Lists.{SymbolsSound, RuleAdded, MinimiseAdded, SymbolAdded, final_counts, Lists, lists, Sized, tables, reading_of, SoundLists, turn_of}
 use Rattle.aspif_tables.specs.declared.table.Counts.{Counts}
 use Rattle.aspif_tables.specs.declared.line.LineTurn.{LineTurn}
@@ -27,12 +30,12 @@ highest_append f (x ∷ xs) ys = omega (arith, highest_append f xs ys)
 
 -- ---- the text grows, the symbols stay
 
-module _ (text text' : List ℕ) (conditions : List ℤ) (symbols : List ℕ) (n used names end end' : ℕ)
+module _ (text text' : List ℕ) (conditions : List ℤ) (symbols : List SymbolRow) (n used names end end' : ℕ)
     (sound : SymbolsSound text conditions symbols n used names end) (kept : Kept 0 end text text') (longer : end ≤ end') where
   symbols_same : symbols_of text' conditions symbols n ≡ symbols_of text conditions symbols n
   symbols_same =
-      span_same (λ (j : ℕ). symbol_at text' conditions (row_at symbols j)) (λ (j : ℕ). symbol_at text conditions (row_at symbols j)) 0 n
-      (λ j l. let i = sound.inside j (omega arith) in rw (span_same (λ (q : ℕ). get_or text' q 0) (λ (q : ℕ). get_or text q 0) (row_at symbols j).a (row_at symbols j).b (λ q w. kept.same q (omega arith))))
+      span_same (λ (j : ℕ). symbol_at text' conditions (symbol_row symbols j)) (λ (j : ℕ). symbol_at text conditions (symbol_row symbols j)) 0 n
+      (λ j l. let i = sound.inside j (omega arith) in rw (span_same (λ (q : ℕ). get_or text' q 0) (λ (q : ℕ). get_or text q 0) (symbol_row symbols j).name (symbol_row symbols j).length (λ q w. kept.same q (omega arith))))
 
   symbols_stay : SymbolsSound text' conditions symbols n used names end'
   symbols_stay = record { inside = λ j l. let i = sound.inside j l in (omega arith, i.1); size = rw symbols_same sound.size; length = rw symbols_same sound.length }
@@ -46,7 +49,7 @@ module _ (s : List ℕ) (t : Lists) (n : Counts) (text' : List ℕ) (end : ℕ) 
     (appended : bytes_at text' 0 end ≡ bytes_at t.text 0 n.text ++ line s) (kept : Kept 0 n.text t.text text') where
   -- the tables with the new text
   abbrev put : Lists
-  put = lists text' t.pool t.rules t.priorities t.literals t.weights t.levels t.conditions t.symbols
+  put = lists text' t.pool t.rules t.entries t.levels t.conditions t.symbols
 
   same : symbols_of text' t.conditions t.symbols n.symbols ≡ symbols_of t.text t.conditions t.symbols n.symbols
   same = symbols_same t.text text' t.conditions t.symbols n.symbols n.conditions n.names n.text end sound.symbols kept (omega arith)
@@ -58,7 +61,7 @@ module _ (s : List ℕ) (t : Lists) (n : Counts) (text' : List ℕ) (end : ℕ) 
   symbol_ready = symbols_stay t.text text' t.conditions t.symbols n.symbols n.conditions n.names n.text n.text sound.symbols kept (omega arith)
 
   sized : Sized put
-  sized = record { text = kept.long ∙ sound.sized.text; pool = sound.sized.pool; rules = sound.sized.rules; priorities = sound.sized.priorities; literals = sound.sized.literals; weights = sound.sized.weights; levels = sound.sized.levels; conditions = sound.sized.conditions; symbols = sound.sized.symbols }
+  sized = record { text = kept.long ∙ sound.sized.text; pool = sound.sized.pool; rules = sound.sized.rules; entries = sound.sized.entries; levels = sound.sized.levels; conditions = sound.sized.conditions; symbols = sound.sized.symbols }
 
   pub refused_line : (c : ℕ) → number 0 10 s ≡ bad c → stop c ≡ stepped_line s (reading_of t n)
   unfolding stepped_line statement
@@ -77,9 +80,9 @@ module _ (s : List ℕ) (t : Lists) (n : Counts) (text' : List ℕ) (end : ℕ) 
     leads_at {u} {v} m a e h = subst (λ (w : Lists). Leads w m a) (sym e) h
 
     -- ---- rules
-    module _ (pool' : List ℤ) (rules' : List ℕ) (one : kind ≡ 1) where
+    module _ (pool' : List ℤ) (rules' : List Row) (one : kind ≡ 1) where
       abbrev ruled : Lists
-      ruled = lists text' pool' rules' t.priorities t.literals t.weights t.levels t.conditions t.symbols
+      ruled = lists text' pool' rules' t.entries t.levels t.conditions t.symbols
 
       rule_kind : (x : Read Rule) → rule_line r ≡ x → of_kind kind r ≡ bind x (λ r l. got (rule r) l)
       unfolding of_kind
@@ -91,7 +94,7 @@ module _ (s : List ℕ) (t : Lists) (n : Counts) (text' : List ℕ) (end : ℕ) 
             rw (kind_led (rule_kind (got a.read []) a.line), a.grown, same, appended),
             (
               record {
-                sized = record { text = sized.text; pool = a.long_pool ∙ sized.pool; rules = a.long_rules ∙ sized.rules; priorities = sized.priorities; literals = sized.literals; weights = sized.weights; levels = sized.levels; conditions = sized.conditions; symbols = sized.symbols };
+                sized = record { text = sized.text; pool = a.long_pool ∙ sized.pool; rules = a.long_rules ∙ sized.rules; entries = sized.entries; levels = sized.levels; conditions = sized.conditions; symbols = sized.symbols };
                 rules = a.sound;
                 symbols = stay;
                 levels = sound.levels;
@@ -105,25 +108,25 @@ module _ (s : List ℕ) (t : Lists) (n : Counts) (text' : List ℕ) (end : ℕ) 
       rule_stops c e = sym (kind_led (rule_kind (bad c) e))
 
     -- ---- minimise lines
-    module _ (ps' ls' ws' levels' : List ℤ) (two : kind ≡ 2) where
+    module _ (entries' : List Entry) (levels' : List ℤ) (two : kind ≡ 2) where
       abbrev minimised : Lists
-      minimised = lists text' t.pool t.rules ps' ls' ws' levels' t.conditions t.symbols
+      minimised = lists text' t.pool t.rules entries' levels' t.conditions t.symbols
 
       minimise_kind : (x : Read Minimise) → minimise_line r ≡ x → of_kind kind r ≡ bind x (λ m l. got (minimise m.priority m.entries) l)
       unfolding of_kind
       minimise_kind x e = rw (two, e)
 
-      pub minimise_goes : (m : Counts) → MinimiseAdded t.priorities t.literals t.weights t.levels ps' ls' ws' levels' n end r m → Leads minimised m Goes
+      pub minimise_goes : (m : Counts) → MinimiseAdded t.entries t.levels entries' levels' n end r m → Leads minimised m Goes
       minimise_goes m a =
           rw a.counts (
             rw (kind_led (minimise_kind (got a.read []) a.line), a.grown, a.levelled, same, appended),
             (
               record {
-                sized = record { text = sized.text; pool = sized.pool; rules = sized.rules; priorities = a.long_priorities ∙ sized.priorities; literals = a.long_literals ∙ sized.literals; weights = a.long_weights ∙ sized.weights; levels = a.long_levels ∙ sized.levels; conditions = sized.conditions; symbols = sized.symbols };
+                sized = record { text = sized.text; pool = sized.pool; rules = sized.rules; entries = a.long_entries ∙ sized.entries; levels = a.long_levels ∙ sized.levels; conditions = sized.conditions; symbols = sized.symbols };
                 rules = sound.rules;
                 symbols = stay;
                 levels = rw a.levelled (descending_insert a.read.priority (literals_at t.levels 0 n.levels) sound.levels);
-                atoms = rw (a.grown, same) (omega (arith, a.top, sound.atoms, highest_append (λ (e : Entry). nat_abs e.literal) (program_of (tables t n)).entries a.read.entries));
+                atoms = rw (a.grown, same) (omega (arith, a.top, sound.atoms, highest_append entry_atom (program_of (tables t n)).entries a.read.entries));
               },
               omega arith,
             ),
@@ -133,9 +136,9 @@ module _ (s : List ℕ) (t : Lists) (n : Counts) (text' : List ℕ) (end : ℕ) 
       minimise_stops c e = sym (kind_led (minimise_kind (bad c) e))
 
     -- ---- symbols
-    module _ (conditions' : List ℤ) (symbols' : List ℕ) (four : kind ≡ 4) where
+    module _ (conditions' : List ℤ) (symbols' : List SymbolRow) (four : kind ≡ 4) where
       abbrev symbolled : Lists
-      symbolled = lists text' t.pool t.rules t.priorities t.literals t.weights t.levels conditions' symbols'
+      symbolled = lists text' t.pool t.rules t.entries t.levels conditions' symbols'
 
       symbol_kind : (x : Read Symbol) → symbol_line r ≡ x → of_kind kind r ≡ bind x (λ s l. got (symbol s) l)
       unfolding of_kind
@@ -148,7 +151,7 @@ module _ (s : List ℕ) (t : Lists) (n : Counts) (text' : List ℕ) (end : ℕ) 
             rw (kind_led (symbol_kind (got a.read []) a.line), grown, appended),
             (
               record {
-                sized = record { text = sized.text; pool = sized.pool; rules = sized.rules; priorities = sized.priorities; literals = sized.literals; weights = sized.weights; levels = sized.levels; conditions = a.long_conditions ∙ sized.conditions; symbols = a.long_symbols ∙ sized.symbols };
+                sized = record { text = sized.text; pool = sized.pool; rules = sized.rules; entries = sized.entries; levels = sized.levels; conditions = a.long_conditions ∙ sized.conditions; symbols = a.long_symbols ∙ sized.symbols };
                 rules = sound.rules;
                 symbols = a.sound;
                 levels = sound.levels;

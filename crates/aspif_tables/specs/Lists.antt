@@ -2,15 +2,19 @@
 use Rattle.std.specs.Prelude.{◌≡◌, true, false, not, List, [], ◌∷◌, ◌++◌, ℕ, ◌+◌, ◌≤◌, ◌<◌, max, ℤ, nat_abs, length, Option, Some, None, Result, Ok, Err, IfOk}
 use Rattle.std.specs.Borrow.{Bor}
 use Rattle.std.specs.Int.Signed.{lt_z}
+use Rattle.asp.specs.declared.rules.BodyKind.{BodyKind}
+use Rattle.asp.specs.declared.rules.Row.{Row}
+use Rattle.asp.specs.declared.entries.Entry.{Entry}
+use Rattle.asp.specs.declared.symbols.SymbolRow.{SymbolRow}
 use Rattle.asp.specs.Sets.{pick}
 use Rattle.asp.specs.Literal.{one_signed}
-use Rattle.asp.specs.Program.{Rule, Entry, Symbol, highest, rule_atoms, atoms}
-use Rattle.asp.specs.Tables.{literals_at, is_choice, is_weighted, is_mixed, Row, row_at, rules_of, entries_of, symbols_of, Tables, program_of}
+use Rattle.asp.specs.Program.{Rule, Symbol, highest, rule_atoms, atoms}
+use Rattle.asp.specs.Tables.{literals_at, is_choice, is_weighted, is_mixed, row_at, rules_of, entries_of, symbol_row, symbols_of, Tables, program_of}
 use Rattle.aspif_fields.specs.Fields.{got, bad}
 use Rattle.aspif_fields.specs.Refusals.{refusal_number}
 use Rattle.aspif_fields.specs.declared.refusal.Refusal.{Refusal}
 use Rattle.aspif_lines.specs.Text.{rule_line, Minimise, minimise_line, symbol_line, pieces, Reading, insert, sum, rule_size, condition_size, name_size, Step, stop, last, goes}
-use Rattle.aspif_lines.specs.Seen.{bytes_at}
+use Rattle.aspif_lines.specs.Seen.{entry_atom, bytes_at}
 use Rattle.aspif_tables.specs.declared.table.Counts.{Counts}
 use Rattle.aspif_tables.specs.declared.table.Stored.{Stored}
 use Rattle.aspif_tables.specs.declared.line.LineTurn.{LineTurn}
@@ -40,24 +44,24 @@ Descending (q ∷ qs) = Below q qs × Descending qs
 -- ---- rows that lie inside their tables
 
 -- order 2: the places of a weighted body beside those of its literals: its bound and their weights
-abbrev pub extra_places : ℕ → ℕ → ℕ
+abbrev pub extra_places : BodyKind → ℕ → ℕ
 extra_places kind k = pick (is_weighted kind) (k + 1) 0
 
 -- the place after a row's last
 abbrev pub row_end : Row → ℕ
-row_end r = r.b + r.c + r.d + extra_places r.a r.d
+row_end r = r.first + r.heads + r.literals + extra_places r.body r.literals
 
--- the rules lie in the first `filled` places of the pool and take `used` of the literal table, a plain head has one atom at most, and a row's kind is right
-pub record RulesSound (pool : List ℤ) (rules : List ℕ) (n used filled : ℕ) : Type 0 where
+-- the rules lie in the first `filled` places of the pool and take `used` of the literal table, a plain head has one atom at most, the kind of a weighted body says truly whether some atom stands with both signs
+pub record RulesSound (pool : List ℤ) (rules : List Row) (n used filled : ℕ) : Type 0 where
   pub inside : (j : ℕ) → j < n → row_end (row_at rules j) ≤ filled
-  pub single : (j : ℕ) → j < n → is_choice (row_at rules j).a ≡ false → (row_at rules j).c ≤ 1
-  pub signed : (j : ℕ) → j < n → is_weighted (row_at rules j).a ≡ true → is_mixed (row_at rules j).a ≡ not (one_signed (literals_at pool ((row_at rules j).b + (row_at rules j).c) (row_at rules j).d))
+  pub single : (j : ℕ) → j < n → is_choice (row_at rules j).head ≡ false → (row_at rules j).heads ≤ 1
+  pub signed : (j : ℕ) → j < n → is_weighted (row_at rules j).body ≡ true → is_mixed (row_at rules j).body ≡ not (one_signed (literals_at pool ((row_at rules j).first + (row_at rules j).heads) (row_at rules j).literals))
   pub size : sum rule_size (rules_of pool rules n) ≡ used
   pub room : filled ≤ used + used + n
 
 -- names lie in the first `end` bytes of the text, conditions in the first `used` places of theirs and fill them
-pub record SymbolsSound (text : List ℕ) (conditions : List ℤ) (symbols : List ℕ) (n used names end : ℕ) : Type 0 where
-  pub inside : (j : ℕ) → j < n → ((row_at symbols j).a + (row_at symbols j).b ≤ end) × ((row_at symbols j).c + (row_at symbols j).d ≤ used)
+pub record SymbolsSound (text : List ℕ) (conditions : List ℤ) (symbols : List SymbolRow) (n used names end : ℕ) : Type 0 where
+  pub inside : (j : ℕ) → j < n → ((symbol_row symbols j).name + (symbol_row symbols j).length ≤ end) × ((symbol_row symbols j).condition + (symbol_row symbols j).literals ≤ used)
   pub size : sum condition_size (symbols_of text conditions symbols n) ≡ used
   pub length : sum name_size (symbols_of text conditions symbols n) ≡ names
 
@@ -67,7 +71,7 @@ abbrev pub rule_counts : Counts → ℕ → ℕ → ℕ → ℕ → Counts
 rule_counts n used filled top end =
     record { rules = n.rules + 1; used = used; filled = filled; entries = n.entries; levels = n.levels; symbols = n.symbols; conditions = n.conditions; names = n.names; text = end; atoms = top }
 
-pub record RuleAdded (pool : List ℤ) (rules : List ℕ) (pool' : List ℤ) (rules' : List ℕ) (n : Counts) (end : ℕ) (l : List ℕ) (m : Counts) : Type 0 where
+pub record RuleAdded (pool : List ℤ) (rules : List Row) (pool' : List ℤ) (rules' : List Row) (n : Counts) (end : ℕ) (l : List ℕ) (m : Counts) : Type 0 where
   pub read : Rule
   pub line : rule_line l ≡ got read []
   pub grown : rules_of pool' rules' (n.rules + 1) ≡ rules_of pool rules n.rules ++ (read ∷ [])
@@ -85,29 +89,27 @@ abbrev pub minimise_counts : Counts → ℕ → ℕ → ℕ → ℕ → Counts
 minimise_counts n entries levels top end =
     record { rules = n.rules; used = n.used; filled = n.filled; entries = entries; levels = levels; symbols = n.symbols; conditions = n.conditions; names = n.names; text = end; atoms = top }
 
-pub record MinimiseAdded (ps ls ws levels ps' ls' ws' levels' : List ℤ) (n : Counts) (end : ℕ) (l : List ℕ) (m : Counts) : Type 0 where
+pub record MinimiseAdded (entries : List Entry) (levels : List ℤ) (entries' : List Entry) (levels' : List ℤ) (n : Counts) (end : ℕ) (l : List ℕ) (m : Counts) : Type 0 where
   pub read : Minimise
   pub line : minimise_line l ≡ got read []
-  pub grown : entries_of ps' ls' ws' m.entries ≡ entries_of ps ls ws n.entries ++ read.entries
+  pub grown : entries_of entries' m.entries ≡ entries_of entries n.entries ++ read.entries
   pub levelled : literals_at levels' 0 m.levels ≡ insert read.priority (literals_at levels 0 n.levels)
-  pub top : m.atoms ≡ max n.atoms (highest (λ (e : Entry). nat_abs e.literal) read.entries)
+  pub top : m.atoms ≡ max n.atoms (highest entry_atom read.entries)
   pub counts : m ≡ minimise_counts n m.entries m.levels m.atoms end
-  pub long_priorities : length ps' ≡ length ps
-  pub long_literals : length ls' ≡ length ls
-  pub long_weights : length ws' ≡ length ws
+  pub long_entries : length entries' ≡ length entries
   pub long_levels : length levels' ≡ length levels
 
 abbrev pub AddedMinimise : Stored → Stored → ℕ → List ℕ → Result (Unit {0}) Refusal → Type 0
 AddedMinimise p q end l (Ok u) =
-    MinimiseAdded p.priorities p.literals p.weights p.levels q.priorities q.literals q.weights q.levels p.counts end l q.counts
-    × (q ≡ record p { priorities = q.priorities; literals = q.literals; weights = q.weights; levels = q.levels; counts = q.counts })
+    MinimiseAdded p.entries p.levels q.entries q.levels p.counts end l q.counts
+    × (q ≡ record p { entries = q.entries; levels = q.levels; counts = q.counts })
 AddedMinimise p q end l (Err e) = minimise_line l ≡ bad (refusal_number e)
 
 abbrev pub symbol_counts : Counts → ℕ → ℕ → ℕ → ℕ → Counts
 symbol_counts n conditions names top end =
     record { rules = n.rules; used = n.used; filled = n.filled; entries = n.entries; levels = n.levels; symbols = n.symbols + 1; conditions = conditions; names = names; text = end; atoms = top }
 
-pub record SymbolAdded (text : List ℕ) (conditions : List ℤ) (symbols : List ℕ) (conditions' : List ℤ) (symbols' : List ℕ) (n : Counts) (end : ℕ) (l : List ℕ) (m : Counts) : Type 0 where
+pub record SymbolAdded (text : List ℕ) (conditions : List ℤ) (symbols : List SymbolRow) (conditions' : List ℤ) (symbols' : List SymbolRow) (n : Counts) (end : ℕ) (l : List ℕ) (m : Counts) : Type 0 where
   pub read : Symbol
   pub line : symbol_line l ≡ got read []
   pub grown : symbols_of text conditions' symbols' (n.symbols + 1) ≡ symbols_of text conditions symbols n.symbols ++ (read ∷ [])
@@ -132,29 +134,25 @@ final_counts n end =
 pub record Lists : Type 0 where
   pub text : List ℕ
   pub pool : List ℤ
-  pub rules : List ℕ
-  pub priorities : List ℤ
-  pub literals : List ℤ
-  pub weights : List ℤ
+  pub rules : List Row
+  pub entries : List Entry
   pub levels : List ℤ
   pub conditions : List ℤ
-  pub symbols : List ℕ
+  pub symbols : List SymbolRow
 
-abbrev pub lists : List ℕ → List ℤ → List ℕ → List ℤ → List ℤ → List ℤ → List ℤ → List ℤ → List ℕ → Lists
-lists text pool rules priorities literals weights levels conditions symbols =
-    record { text = text; pool = pool; rules = rules; priorities = priorities; literals = literals; weights = weights; levels = levels; conditions = conditions; symbols = symbols }
+abbrev pub lists : List ℕ → List ℤ → List Row → List Entry → List ℤ → List ℤ → List SymbolRow → Lists
+lists text pool rules entries levels conditions symbols =
+    record { text = text; pool = pool; rules = rules; entries = entries; levels = levels; conditions = conditions; symbols = symbols }
 
 -- The pools have room for one line beyond the limits, which are judged after the line.
 pub record Sized (t : Lists) : Type 0 where
   pub text : length t.text ≡ 65537
   pub pool : length t.pool ≡ 37889
-  pub rules : length t.rules ≡ 8196
-  pub priorities : length t.priorities ≡ 1536
-  pub literals : length t.literals ≡ 1536
-  pub weights : length t.weights ≡ 1536
+  pub rules : length t.rules ≡ 2049
+  pub entries : length t.entries ≡ 1536
   pub levels : length t.levels ≡ 9
   pub conditions : length t.conditions ≡ 3072
-  pub symbols : length t.symbols ≡ 2052
+  pub symbols : length t.symbols ≡ 513
 
 abbrev pub tables : Lists → Counts → Tables
 tables t n =
@@ -165,9 +163,7 @@ tables t n =
       rulecount = n.rules;
       levels = t.levels;
       levelcount = n.levels;
-      priorities = t.priorities;
-      literals = t.literals;
-      weights = t.weights;
+      entries = t.entries;
       entrycount = n.entries;
       conditions = t.conditions;
       symbols = t.symbols;
@@ -192,7 +188,7 @@ abbrev pub no_counts : ℕ → Counts
 no_counts used = record { rules = 0; used = 0; filled = 0; entries = 0; levels = 0; symbols = 0; conditions = 0; names = 0; text = used; atoms = 0 }
 
 abbrev pub lists_of : Stored → Lists
-lists_of p = lists p.text p.pool p.rules p.priorities p.literals p.weights p.levels p.conditions p.symbols
+lists_of p = lists p.text p.pool p.rules p.entries p.levels p.conditions p.symbols
 
 abbrev pub reading_in : Stored → Reading
 reading_in p = reading_of (lists_of p) p.counts

@@ -5,7 +5,8 @@ ghost use Rattle.aspif_fields.specs.SeenFields.{Ending};
 ghost use Rattle.aspif_lines.specs.Seen.{bytes_at};
 ghost use Rattle.aspif_tables.specs.Lists.{Within, RulesSound, SymbolsSound, Descending, AddedRule, AddedMinimise, AddedSymbol};
 
-use super::table::{Counts, Stored, extra_places, insert_level, push_row};
+use super::table::{Counts, Stored, extra_places, insert_level};
+use asp::symbols::SymbolRow;
 use aspif_fields::refusal::Refusal;
 use aspif_fields::token::Rest;
 use aspif_lines::minimise::{MinimiseLine, read_minimise};
@@ -20,16 +21,10 @@ impl Stored {
         ensures { AddedRule self.old self.new end rest.old.bytes.now result }
     {
         let n = self.counts;
-        let line = read_rule(rest, &mut self.pool, n.filled, n.atoms)?;
-        let RuleLine {
-            kind,
-            heads,
-            body,
-            ..
-        } = line;
-        push_row(&mut self.rules, n.rules, kind, n.filled, heads, body);
-        let places = heads + body;
-        let whole = places + extra_places(kind, body);
+        let RuleLine { row, top } = read_rule(rest, &mut self.pool, n.filled, n.atoms)?;
+        self.rules[n.rules] = row;
+        let places = usize::from(row.heads) + usize::from(row.literals);
+        let whole = places + extra_places(row);
         let used = n.used + places;
         let filled = n.filled + whole;
         self.counts = Counts {
@@ -37,7 +32,7 @@ impl Stored {
             used,
             filled,
             text: end,
-            atoms: line.top,
+            atoms: top,
             ..n
         };
         Ok(())
@@ -50,14 +45,7 @@ impl Stored {
         ensures { AddedMinimise self.old self.new end rest.old.bytes.now result }
     {
         let n = self.counts;
-        let line = read_minimise(
-            rest,
-            &mut self.priorities,
-            &mut self.literals,
-            &mut self.weights,
-            n.entries,
-            n.atoms,
-        )?;
+        let line = read_minimise(rest, &mut self.entries, n.entries, n.atoms)?;
         let MinimiseLine {
             priority,
             count,
@@ -93,14 +81,12 @@ impl Stored {
             top,
         } = line;
         let first = n.text + (before + name);
-        push_row(
-            &mut self.symbols,
-            n.symbols,
-            first,
-            length,
-            n.conditions,
-            shown,
-        );
+        self.symbols[n.symbols] = SymbolRow {
+            name: first as u16,
+            length: length as u16,
+            condition: n.conditions as u16,
+            literals: shown as u16,
+        };
         self.counts = Counts {
             symbols: n.symbols + 1,
             conditions: n.conditions + shown,

@@ -1,5 +1,7 @@
 // Figures of a stored program: its counts, and a sum over each of its tables. A place outside a table is passed over.
-use asp::table::is_weighted;
+use asp::entries::Entry;
+use asp::rules::{BodyKind, Row};
+use asp::symbols::SymbolRow;
 use aspif::text::Stored;
 use std::fmt;
 
@@ -78,56 +80,59 @@ fn fold_bytes(h: u32, bytes: &[u8]) -> u32 {
     bytes.iter().fold(h, |h, b| fold_number(h, u16::from(*b)))
 }
 
-fn fold_rule(h: u32, pool: &[i32], row: &[u16]) -> u32 {
-    let [kind, first, heads, body] = *row else {
-        return h;
+// A row's kind in one number, as tests/aspif_texts.py has it.
+fn kind_of(row: Row) -> u16 {
+    let body = match row.body {
+        BodyKind::Normal => 0,
+        BodyKind::Weighted => 2,
+        BodyKind::Mixed => 4,
     };
-    let size = usize::from(heads) + usize::from(body);
-    let a = fold_number(h, kind);
-    let b = fold_number(a, heads);
-    let c = fold_number(b, body);
-    let d = fold_literals(c, part(pool, first, size));
-    if !is_weighted(usize::from(kind)) {
+    body + u16::from(row.head.is_choice())
+}
+
+fn fold_rule(h: u32, pool: &[i32], row: Row) -> u32 {
+    let size = usize::from(row.heads) + usize::from(row.literals);
+    let a = fold_number(h, kind_of(row));
+    let b = fold_number(a, row.heads);
+    let c = fold_number(b, row.literals);
+    let d = fold_literals(c, part(pool, row.first, size));
+    if !row.body.is_weighted() {
         return d;
     }
     // the bound and the weights, behind the literals
-    let whole = part(pool, first, size + usize::from(body) + 1);
+    let whole = part(pool, row.first, size + usize::from(row.literals) + 1);
     whole.iter().skip(size).fold(d, |h, w| fold_size(h, *w))
 }
 
-fn fold_symbol(h: u32, text: &[u8], conditions: &[i32], row: &[u16]) -> u32 {
-    let [first, size, place, count] = *row else {
-        return h;
-    };
-    let a = fold_number(h, size);
-    let b = fold_number(a, count);
-    let c = fold_bytes(b, part(text, first, usize::from(size)));
-    fold_literals(c, part(conditions, place, usize::from(count)))
+fn fold_symbol(h: u32, text: &[u8], conditions: &[i32], row: SymbolRow) -> u32 {
+    let a = fold_number(h, row.length);
+    let b = fold_number(a, row.literals);
+    let c = fold_bytes(b, part(text, row.name, usize::from(row.length)));
+    fold_literals(
+        c,
+        part(conditions, row.condition, usize::from(row.literals)),
+    )
 }
 
-fn fold_entries(p: &Stored) -> u32 {
-    let n = p.counts.entries;
-    let mut h: u32 = 7;
-    for ((q, l), w) in p.priorities.iter().zip(&p.literals).zip(&p.weights).take(n) {
-        let a = fold_literal(h, *q);
-        let b = fold_literal(a, *l);
-        h = fold_weight(b, *w);
-    }
-    h
+fn fold_entry(h: u32, e: Entry) -> u32 {
+    let a = fold_literal(h, e.priority);
+    let b = fold_literal(a, e.literal);
+    fold_weight(b, e.weight)
 }
 
 pub fn figures_of(p: &Stored, written: &[u8]) -> Figures {
     let n = p.counts;
-    let rules = p.rules.chunks(4).take(n.rules);
-    let symbols = p.symbols.chunks(4).take(n.symbols);
+    let rules = p.rules.iter().take(n.rules);
+    let entries = p.entries.iter().take(n.entries);
+    let symbols = p.symbols.iter().take(n.symbols);
     Figures {
         atoms: n.atoms,
         rules: n.rules,
-        rulesum: rules.fold(7, |h, row| fold_rule(h, &p.pool, row)),
+        rulesum: rules.fold(7, |h, row| fold_rule(h, &p.pool, *row)),
         entries: n.entries,
-        entrysum: fold_entries(p),
+        entrysum: entries.fold(7, |h, e| fold_entry(h, *e)),
         symbols: n.symbols,
-        symbolsum: symbols.fold(7, |h, row| fold_symbol(h, &p.text, &p.conditions, row)),
+        symbolsum: symbols.fold(7, |h, row| fold_symbol(h, &p.text, &p.conditions, *row)),
         text: n.text,
         textsum: fold_bytes(7, part(written, 0, n.text)),
         levels: n.levels,

@@ -49,11 +49,7 @@ impl LevelTables {
         for e in entries {
             if weighs_on(*e, priority) {
                 let k = t.count;
-                put_soft(
-                    &mut t.softs,
-                    k,
-                    Soft::of_entry(e.paid_literal(), e.size()),
-                );
+                put_soft(&mut t.softs, k, Soft::of_entry(e.paid_literal(), e.size()));
                 t.count = k + 1;
             }
         }

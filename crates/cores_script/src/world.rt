@@ -62,10 +62,7 @@ impl World {
         if 1000 < p {
             return Ok(());
         }
-        self.tables = LevelTables::opened(
-            &self.entries[..self.count],
-            asp::literal::positive(p),
-        );
+        self.tables = LevelTables::opened(&self.entries[..self.count], asp::literal::positive(p));
         print_tables(rt, false, &self.tables)
     }
 

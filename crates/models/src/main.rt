@@ -4,8 +4,10 @@
 
 ghost use Rattle.aspif.specs.Store.{WellFormed};
 
+use asp::atoms::AtomSet;
+use aspif::lent::{objective, rule_table};
 use aspif::text::Stored;
-use stability::stable::Stability;
+use stability::stable::{Stability, is_stable};
 use std::io;
 use std::rt::Files;
 
@@ -68,8 +70,10 @@ fn set_of(number: u32) -> [u8; 1025] {
 fn is_model(p: &Stored, m: &[u8; 1025]) -> bool
     requires { WellFormed p.now }
 {
-    let s = stability::stable::is_stable(&p.pool, &p.rules, p.counts.rules, p.counts.atoms, m);
-    matches!(s, Stability::Stable)
+    matches!(
+        is_stable(rule_table(p), AtomSet { bytes: m }),
+        Stability::Stable
+    )
 }
 
 fn print_set(rt: &impl Print, m: &[u8; 1025]) -> io::Result<()> {
@@ -88,19 +92,9 @@ fn print_set(rt: &impl Print, m: &[u8; 1025]) -> io::Result<()> {
 fn print_costs(rt: &impl Print, p: &Stored, m: &[u8; 1025]) -> io::Result<()>
     requires { WellFormed p.now }
 {
-    let k = p.counts.levels;
     let mut costs = [0i64; 8];
-    asp::cost::level_costs(
-        &p.levels,
-        k,
-        &p.priorities,
-        &p.literals,
-        &p.weights,
-        p.counts.entries,
-        m,
-        &mut costs,
-    );
-    for cost in &costs[..k] {
+    objective(p).level_costs(AtomSet { bytes: m }, &mut costs);
+    for cost in &costs[..p.counts.levels] {
         print!(rt; " {cost}")?;
     }
     rt.print("\n")

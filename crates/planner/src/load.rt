@@ -3,8 +3,8 @@ ghost use Rattle.aspif_lines.specs.Text.{text_of};
 ghost use Rattle.planner.specs.Calls.{outcome, says_load, AfterLoad};
 
 use crate::service::{Loaded, Service};
-pub use aspif::text::RefusedAt;
 use asp::cost::Objective;
+pub use aspif::text::RefusedAt;
 
 impl Service {
     // "accepted, the service is as a fresh one given it, with status running"; refused, it is as before.

@@ -1,5 +1,5 @@
 -- A test that computes whether stored tables are well formed, and that it is right. Assumes nothing.
-use Rattle.std.proofs.Common.{◌≡◌, ℕ, zero, suc, ◌+◌, ◌*◌, ◌<◌, Bool, true, false, not, ◌&&◌, ◌||◌, T, eqb, leb, List, [], ◌∷◌, length, get_or, ℤ, pos, nat_abs, refl, ⊎_elim, arith, leb→le, eqb-true}
+use Rattle.std.proofs.Common.{◌≡◌, ℕ, zero, suc, ◌+◌, ◌<◌, Bool, true, false, not, ◌&&◌, ◌||◌, T, eqb, leb, List, [], ◌∷◌, length, get_or, ℤ, pos, nat_abs, refl, ⊎_elim, arith, leb→le, eqb-true}
 use mathlib.Core.Bool.{beq}
 use mir.Facts.{and_yes, or_yes}
 use borrow.Author.Tests.{eqb-false}
@@ -8,11 +8,8 @@ use Rattle.asp.specs.Sets.{In}
 use Rattle.asp.specs.Program.{Weighed, Body, normal, weighted, Head, constraint, plain, choice, Rule, All, LiteralIn, BodyIn, HeadIn, RuleIn}
 use Rattle.asp.specs.Literal.{one_signed}
 use Rattle.asp.specs.Tables.{literals_at, is_choice, is_weighted, is_mixed, row_at, rules_of, RowIn, Formed}
-use Rattle.search.specs.Scan.{rules}
 use Rattle.counting.specs.Counts.{sum_from}
-use Rattle.indexing.specs.Sorting.{Readied}
-use Rattle.indexing.proofs.Indexing.{ready}
-use Rattle.search_traces.specs.Stored.{Wished}
+use Rattle.search_traces.specs.Stored.{Roomy, Wished}
 
 -- f at every number below k
 abbrev pub every : (ℕ → Bool) → ℕ → Bool
@@ -115,34 +112,31 @@ row_ok_lem pool w t =
     same_is false true t = absurd t
     same_is false false t = refl
 
-abbrev pub formed_ok : ℕ → List ℤ → List ℕ → ℕ → Bool
-formed_ok n pool rows count =
-    leb n 1024 && (leb (count * 4) (length rows) && (every (λ (r : ℕ). row_ok pool (row_at rows r)) count && rules_ok n (rules_of pool rows count)))
+abbrev pub formed_ok : ℕ → List ℤ → List Row → Bool
+formed_ok n pool rows =
+    leb n 1024 && (every (λ (r : ℕ). row_ok pool (row_at rows r)) (length rows) && rules_ok n (rules_of pool rows (length rows)))
 
-pub formed : (n : ℕ) (pool : List ℤ) (rows : List Row) (count : ℕ) → T (formed_ok n pool rows count) → Formed n pool rows count
-formed n pool rows count t =
+pub formed : (n : ℕ) (pool : List ℤ) (rows : List Row) → T (formed_ok n pool rows) → Formed n pool rows (length rows)
+formed n pool rows t =
     let a = and_yes (leb n 1024) _ t in
-    let b = and_yes (leb (count * 4) (length rows)) _ a.1 in
-    let c = and_yes (every (λ (r : ℕ). row_ok pool (row_at rows r)) count) _ b.1 in
+    let c = and_yes (every (λ (r : ℕ). row_ok pool (row_at rows r)) (length rows)) _ a.1 in
     record {
       few = leb→le n 1024 a.0;
-      long = leb→le (count * 4) (length rows) b.0;
-      row = λ r h. row_ok_lem pool (row_at rows r) (every_at (λ (i : ℕ). row_ok pool (row_at rows i)) count c.0 r h);
-      atoms = rules_ok_lem n (rules_of pool rows count) c.1;
+      long = omega arith;
+      row = λ r h. row_ok_lem pool (row_at rows r) (every_at (λ (i : ℕ). row_ok pool (row_at rows i)) (length rows) c.0 r h);
+      atoms = rules_ok_lem n (rules_of pool rows (length rows)) c.1;
     }
 
--- the rules are few enough, and so are their places together
-abbrev pub room_ok : List ℕ → ℕ → Bool
-room_ok rows count = leb count 2048 && leb (sum_from (λ (r : ℕ). (row_at rows r).heads + (row_at rows r).literals) 0 count) 16384
+abbrev pub room_ok : List Row → Bool
+room_ok rows = leb (length rows) 2048 && leb (sum_from (λ (r : ℕ). (row_at rows r).heads + (row_at rows r).literals) 0 (length rows)) 16384
 
-pub readied : {n : ℕ} {pool : List ℤ} {rows : List ℕ} {count : ℕ} → Formed n pool rows count → T (room_ok rows count) → Readied (rules pool rows count)
-readied {n} {pool} {rows} {count} f t = let a = and_yes (leb count 2048) _ t in ready f (leb→le count 2048 a.0) (leb→le _ 16384 a.1)
+pub roomy : (rows : List Row) → T (room_ok rows) → Roomy rows
+roomy rows t = let a = and_yes (leb (length rows) 2048) _ t in record { few = leb→le (length rows) 2048 a.0; places = leb→le _ 16384 a.1 }
 
-abbrev pub wished_ok : ℕ → List ℤ → ℕ → Bool
-wished_ok n w k = leb k 8 && (leb k (length w) && every (λ (i : ℕ). atom_in n (nat_abs (get_or w i (pos 0)))) k)
+abbrev pub wished_ok : ℕ → List ℤ → Bool
+wished_ok n w = leb (length w) 8 && every (λ (i : ℕ). atom_in n (nat_abs (get_or w i (pos 0)))) (length w)
 
-pub wished : (n : ℕ) (w : List ℤ) (k : ℕ) → T (wished_ok n w k) → Wished n w k
-wished n w k t =
-    let a = and_yes (leb k 8) _ t in
-    let b = and_yes (leb k (length w)) _ a.1 in
-    record { few = leb→le k 8 a.0; long = leb→le k (length w) b.0; atoms = λ i h. atom_in_lem n _ (every_at (λ (i : ℕ). atom_in n (nat_abs (get_or w i (pos 0)))) k b.1 i h) }
+pub wished : (n : ℕ) (w : List ℤ) → T (wished_ok n w) → Wished n w
+wished n w t =
+    let a = and_yes (leb (length w) 8) _ t in
+    record { few = leb→le (length w) 8 a.0; atoms = λ i h. atom_in_lem n _ (every_at (λ (i : ℕ). atom_in n (nat_abs (get_or w i (pos 0)))) (length w) a.1 i h) }

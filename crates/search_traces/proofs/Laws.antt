@@ -1,9 +1,10 @@
 -- What a turn keeps. Assumes nothing.
-use Rattle.std.proofs.Common.{◌≡◌, ℕ, ◌≤◌, List, length, get_or, ℤ, pos, nat_abs, arith}
+use Rattle.std.proofs.Common.{◌≡◌, ℕ, true, false, List, length, ℤ, arith}
+use Rattle.asp.specs.declared.rules.Row.{Row}
 use Rattle.asp.specs.Tables.{Formed}
 use Rattle.search.specs.declared.step.Tested.{Tested}
 use Rattle.search.specs.declared.trail.Places.{Places}
-use Rattle.search.specs.Places.{places, fresh_places, back_of, Good}
+use Rattle.search.specs.Places.{fresh_places, back_of}
 use Rattle.search.specs.Scan.{Rules, rules}
 use Rattle.asp.specs.Sets.{Set}
 use Rattle.search.specs.Soft.{AssumedEntries, assumed_entries, FormedSoft}
@@ -12,24 +13,11 @@ use Rattle.search.proofs.Kept.{after_back, after_fresh, after_step}
 use Rattle.counting.specs.declared.counters.Index.{Index}
 use Rattle.counting.specs.Counters.{Counters}
 use Rattle.counting.specs.Counts.{Tracks}
+use Rattle.indexing.specs.Sorting.{Readied, Sorted}
 use Rattle.indexing.specs.Leaf.{Indexes, Equipped}
+use Rattle.indexing.proofs.Indexing.{ready}
 use Rattle.indexing.proofs.Moving.{equipped}
-use Rattle.search_traces.specs.Stored.{Wished, Running}
-
--- ---- what can be read of a query that runs
-
-module _ {n : ℕ} {g : Rules} {o h : Index} {ls : List ℤ} {ms v : List ℕ} {k : ℕ} {y : Counters} (x : Running n g o h (places ls ms v k) y) where
-  pub good_at : Good (places ls ms v k)
-  good_at = x.trail.good
-
-  pub short_at : k ≤ 1024
-  short_at = x.trail.good.short
-
-  pub small_at : (i : ℕ) → nat_abs (get_or ls i (pos 0)) ≤ 1024
-  small_at = x.trail.good.small
-
-  pub equipped_at : Equipped g o h v y
-  equipped_at = x.equipped
+use Rattle.search_traces.specs.Stored.{Roomy, Wished, Running}
 
 -- ---- it runs at the start, after a cut, after a step
 
@@ -40,11 +28,20 @@ module _ {n : ℕ} {g : Rules} {o h : Index} {t₁ : Places} {y₁ : Counters} w
   pub runs_after_cut : {t : Places} {y : Counters} → Running n g o h t y → t₁ ≡ back_of t → Equipped g o h t₁.value y₁ → Running n g o h t₁ y₁
   runs_after_cut {t} r e k = record { trail = after_back n t e r.trail; equipped = k }
 
-module _ {n : ℕ} {pool : List ℤ} {rows : List ℕ} {rulecount : ℕ} {s : AssumedEntries} {o h : Index} {t t₁ : Places} {y y₁ : Counters} {x : Tested} where
+module _ {n : ℕ} {pool : List ℤ} {rows : List Row} {rulecount : ℕ} {s : AssumedEntries} {o h : Index} {t t₁ : Places} {y y₁ : Counters} {x : Tested} where
   pub runs_on : Formed n pool rows rulecount → FormedSoft n s → Running n (rules pool rows rulecount) o h t y → stepped x t₁ ≡ step_of (rules pool rows rulecount) n s t → Equipped (rules pool rows rulecount) o h t₁.value y₁ → Running n (rules pool rows rulecount) o h t₁ y₁
   runs_on f q r e k = record { trail = after_step pool rows rulecount n s t f q r.trail e; equipped = k }
 
 -- ---- the wishes, with any table of eight places for what is blamed
 
-pub soft_formed : {n : ℕ} {w : List ℤ} {k : ℕ} → Wished n w k → {b : List ℕ} → length b ≡ 8 → {f : Set} → FormedSoft n (assumed_entries w b k f)
-soft_formed f e = record { wished_long = f.long; blamed_long = omega (arith, f.few); atoms = f.atoms }
+pub soft_formed : {n : ℕ} {w : List ℤ} → Wished n w → {b : List ℕ} → length b ≡ 8 → {f : Set} → FormedSoft n (assumed_entries w b (length w) f)
+soft_formed f e = record { wished_long = omega arith; blamed_long = omega (arith, f.few); atoms = f.atoms }
+
+-- ---- the lists of a stored program's rules can be made, and are its index
+
+module _ {n : ℕ} {pool : List ℤ} {rows : List Row} (f : Formed n pool rows (length rows)) (r : Roomy rows) where
+  pub program_readied : Readied (rules pool rows (length rows))
+  program_readied = ready f r.few r.places
+
+  pub program_indexed : {o h : Index} → Sorted false (rules pool rows (length rows)) o → Sorted true (rules pool rows (length rows)) h → Indexes (rules pool rows (length rows)) o h
+  program_indexed a b = record { readied = program_readied; conditions = a; heads = b }

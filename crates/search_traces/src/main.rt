@@ -1,32 +1,33 @@
 // Runs the machine on small stored programs and prints each trail as it changes. tests/traces.py writes what must be printed.
 #![tactic(auto)]
 
+mod machine;
+mod program;
 mod programs;
 mod run;
-mod say;
 mod weighted;
 
 use std::io;
 
 fn main(rt: HostRuntime) -> io::Result<()> {
-    programs::no_statement(&rt)?;
-    programs::itself(&rt)?;
-    programs::not_itself(&rt)?;
-    programs::either(&rt)?;
-    programs::chain(&rt)?;
-    programs::plan(&rt)?;
-    programs::plan_wishes(&rt)?;
-    programs::plan_other_wishes(&rt)?;
-    programs::three_in_two(&rt)?;
-    weighted::capacity(&rt)?;
-    weighted::one_or_two(&rt)?;
-    weighted::both_signs(&rt)?;
-    weighted::nothing(&rt)?;
-    weighted::twice(&rt)?;
-    weighted::worth(&rt)?;
-    weighted::not_twice(&rt)?;
-    weighted::itself_weighed(&rt)?;
-    weighted::not_itself_weighed(&rt)?;
-    weighted::head_by_sum(&rt)?;
-    weighted::choice_by_sum(&rt)
+    run::run(&rt, programs::no_statement())?;
+    run::run(&rt, programs::itself())?;
+    run::run(&rt, programs::not_itself())?;
+    run::run(&rt, programs::either())?;
+    run::run(&rt, programs::chain())?;
+    run::run(&rt, programs::plan())?;
+    run::run(&rt, programs::plan_wishes())?;
+    run::run(&rt, programs::plan_other_wishes())?;
+    run::run(&rt, programs::three_in_two())?;
+    run::run(&rt, weighted::capacity())?;
+    run::run(&rt, weighted::one_or_two())?;
+    run::run(&rt, weighted::both_signs())?;
+    run::run(&rt, weighted::nothing())?;
+    run::run(&rt, weighted::twice())?;
+    run::run(&rt, weighted::worth())?;
+    run::run(&rt, weighted::not_twice())?;
+    run::run(&rt, weighted::itself_weighed())?;
+    run::run(&rt, weighted::not_itself_weighed())?;
+    run::run(&rt, weighted::head_by_sum())?;
+    run::run(&rt, weighted::choice_by_sum())
 }

@@ -1,102 +1,165 @@
 // Order 2: programs with weighted bodies, as `programs` has the others. Written by tests/traces.py.
-use crate::{run, say};
-use std::io;
+#![tactic(auto, using(crate::proofs::Checked::formed, crate::proofs::Checked::roomy, crate::proofs::Checked::wished), unfolding(asp::specs::Literal::occurs_among, asp::specs::Literal::one_signed, asp::specs::Tables::span, asp::specs::Tables::is_choice, asp::specs::Tables::is_weighted, asp::specs::Tables::is_mixed, counting::specs::Counts::sum_from))]
 
-pub fn capacity(rt: &impl Print) -> io::Result<()> {
-    say::say(rt, b"program capacity 5, wishes 1, 2, 3\n")?;
-    let pool = [1i32, 2, 3, 1, 2, 3, 5, 2, 3, 4];
-    let rows = [1u16, 0, 3, 0, 2, 3, 0, 3];
-    let wished = [1i32, 2, 3];
-    let models = [0u32, 4, 2, 1];
-    run::run(rt, &pool, &rows, 2, 3, &wished, 3, &models)
+use crate::program::{Program, row};
+use asp::rules::{BodyKind, HeadKind, Row, RuleTable};
+
+pub fn capacity() -> Program<'static> {
+    Program {
+        name: "capacity 5, wishes 1, 2, 3",
+        table: RuleTable {
+            atoms: 3,
+            pool: &[1, 2, 3, 1, 2, 3, 5, 2, 3, 4],
+            rows: &[
+                row!(Choice, Normal, 0, 3, 0),
+                row!(Plain, Weighted, 3, 0, 3),
+            ],
+        },
+        wished: &[1, 2, 3],
+        models: &[0, 4, 2, 1],
+    }
 }
 
-pub fn one_or_two(rt: &impl Print) -> io::Result<()> {
-    say::say(rt, b"program one or two of three\n")?;
-    let pool = [1i32, 2, 3, 1, 2, 3, 3, 1, 1, 1, -1, -2, -3, 3, 1, 1, 1];
-    let rows = [1u16, 0, 3, 0, 2, 3, 0, 3, 2, 10, 0, 3];
-    let wished = [-1i32, -2, -3];
-    let models = [4u32, 2, 1, 6, 5, 3];
-    run::run(rt, &pool, &rows, 3, 3, &wished, 3, &models)
+pub fn one_or_two() -> Program<'static> {
+    Program {
+        name: "one or two of three",
+        table: RuleTable {
+            atoms: 3,
+            pool: &[1, 2, 3, 1, 2, 3, 3, 1, 1, 1, -1, -2, -3, 3, 1, 1, 1],
+            rows: &[
+                row!(Choice, Normal, 0, 3, 0),
+                row!(Plain, Weighted, 3, 0, 3),
+                row!(Plain, Weighted, 10, 0, 3),
+            ],
+        },
+        wished: &[-1, -2, -3],
+        models: &[4, 2, 1, 6, 5, 3],
+    }
 }
 
-pub fn both_signs(rt: &impl Print) -> io::Result<()> {
-    say::say(rt, b"program never 1 or not 1\n")?;
-    let pool = [2i32, 1, -1, 1, 1, 1];
-    let rows = [1u16, 0, 1, 0, 4, 1, 0, 2];
-    let wished = [0i32; 0];
-    let models = [0u32; 0];
-    run::run(rt, &pool, &rows, 2, 2, &wished, 0, &models)
+pub fn both_signs() -> Program<'static> {
+    Program {
+        name: "never 1 or not 1",
+        table: RuleTable {
+            atoms: 2,
+            pool: &[2, 1, -1, 1, 1, 1],
+            rows: &[row!(Choice, Normal, 0, 1, 0), row!(Plain, Mixed, 1, 0, 2)],
+        },
+        wished: &[],
+        models: &[],
+    }
 }
 
-pub fn nothing(rt: &impl Print) -> io::Result<()> {
-    say::say(rt, b"program never nothing\n")?;
-    let pool = [2i32, 1, 0];
-    let rows = [0u16, 0, 1, 1, 2, 2, 0, 0];
-    let wished = [0i32; 0];
-    let models = [0u32; 0];
-    run::run(rt, &pool, &rows, 2, 2, &wished, 0, &models)
+pub fn nothing() -> Program<'static> {
+    Program {
+        name: "never nothing",
+        table: RuleTable {
+            atoms: 2,
+            pool: &[2, 1, 0],
+            rows: &[row!(Plain, Normal, 0, 1, 1), row!(Plain, Weighted, 2, 0, 0)],
+        },
+        wished: &[],
+        models: &[],
+    }
 }
 
-pub fn twice(rt: &impl Print) -> io::Result<()> {
-    say::say(rt, b"program never 1 twice, or 2\n")?;
-    let pool = [1i32, 2, 3, 1, 1, -2, 2, 1, 1, 1];
-    let rows = [1u16, 0, 3, 0, 2, 3, 0, 3];
-    let wished = [1i32, 3];
-    let models = [0u32, 2, 1, 3];
-    run::run(rt, &pool, &rows, 2, 3, &wished, 2, &models)
+pub fn twice() -> Program<'static> {
+    Program {
+        name: "never 1 twice, or 2",
+        table: RuleTable {
+            atoms: 3,
+            pool: &[1, 2, 3, 1, 1, -2, 2, 1, 1, 1],
+            rows: &[
+                row!(Choice, Normal, 0, 3, 0),
+                row!(Plain, Weighted, 3, 0, 3),
+            ],
+        },
+        wished: &[1, 3],
+        models: &[0, 2, 1, 3],
+    }
 }
 
-pub fn worth(rt: &impl Print) -> io::Result<()> {
-    say::say(rt, b"program worth what its complement leaves\n")?;
-    let pool = [1i32, 2, 3, 1, -1, 2, -2, 3, 5, 4, 2, 3, 1, 0];
-    let rows = [1u16, 0, 3, 0, 4, 3, 0, 5];
-    let wished = [1i32, 2];
-    let models = [0u32, 1];
-    run::run(rt, &pool, &rows, 2, 3, &wished, 2, &models)
+pub fn worth() -> Program<'static> {
+    Program {
+        name: "worth what its complement leaves",
+        table: RuleTable {
+            atoms: 3,
+            pool: &[1, 2, 3, 1, -1, 2, -2, 3, 5, 4, 2, 3, 1, 0],
+            rows: &[row!(Choice, Normal, 0, 3, 0), row!(Plain, Mixed, 3, 0, 5)],
+        },
+        wished: &[1, 2],
+        models: &[0, 1],
+    }
 }
 
-pub fn not_twice(rt: &impl Print) -> io::Result<()> {
-    say::say(rt, b"program 1 if not 2 twice\n")?;
-    let pool = [1i32, -2, -2, 2, 1, 1];
-    let rows = [2u16, 0, 1, 2];
-    let wished = [0i32; 0];
-    let models = [2u32];
-    run::run(rt, &pool, &rows, 1, 2, &wished, 0, &models)
+pub fn not_twice() -> Program<'static> {
+    Program {
+        name: "1 if not 2 twice",
+        table: RuleTable {
+            atoms: 2,
+            pool: &[1, -2, -2, 2, 1, 1],
+            rows: &[row!(Plain, Weighted, 0, 1, 2)],
+        },
+        wished: &[],
+        models: &[2],
+    }
 }
 
-pub fn itself_weighed(rt: &impl Print) -> io::Result<()> {
-    say::say(rt, b"program 1 if 1, by weight\n")?;
-    let pool = [1i32, 1, 1, 1];
-    let rows = [2u16, 0, 1, 1];
-    let wished = [0i32; 0];
-    let models = [0u32];
-    run::run(rt, &pool, &rows, 1, 1, &wished, 0, &models)
+pub fn itself_weighed() -> Program<'static> {
+    Program {
+        name: "1 if 1, by weight",
+        table: RuleTable {
+            atoms: 1,
+            pool: &[1, 1, 1, 1],
+            rows: &[row!(Plain, Weighted, 0, 1, 1)],
+        },
+        wished: &[],
+        models: &[0],
+    }
 }
 
-pub fn not_itself_weighed(rt: &impl Print) -> io::Result<()> {
-    say::say(rt, b"program 1 if not 1, by weight\n")?;
-    let pool = [1i32, -1, 1, 1];
-    let rows = [2u16, 0, 1, 1];
-    let wished = [0i32; 0];
-    let models = [0u32; 0];
-    run::run(rt, &pool, &rows, 1, 1, &wished, 0, &models)
+pub fn not_itself_weighed() -> Program<'static> {
+    Program {
+        name: "1 if not 1, by weight",
+        table: RuleTable {
+            atoms: 1,
+            pool: &[1, -1, 1, 1],
+            rows: &[row!(Plain, Weighted, 0, 1, 1)],
+        },
+        wished: &[],
+        models: &[],
+    }
 }
 
-pub fn head_by_sum(rt: &impl Print) -> io::Result<()> {
-    say::say(rt, b"program a head by a sum, wishes not 4, 1\n")?;
-    let pool = [1i32, 2, 3, 4, 1, 2, -3, 4, 2, 3, 2];
-    let rows = [1u16, 0, 3, 0, 2, 3, 1, 3];
-    let wished = [-4i32, 1];
-    let models = [0u32, 2, 10, 9, 6, 5, 13, 15];
-    run::run(rt, &pool, &rows, 2, 4, &wished, 2, &models)
+pub fn head_by_sum() -> Program<'static> {
+    Program {
+        name: "a head by a sum, wishes not 4, 1",
+        table: RuleTable {
+            atoms: 4,
+            pool: &[1, 2, 3, 4, 1, 2, -3, 4, 2, 3, 2],
+            rows: &[
+                row!(Choice, Normal, 0, 3, 0),
+                row!(Plain, Weighted, 3, 1, 3),
+            ],
+        },
+        wished: &[-4, 1],
+        models: &[0, 2, 10, 9, 6, 5, 13, 15],
+    }
 }
 
-pub fn choice_by_sum(rt: &impl Print) -> io::Result<()> {
-    say::say(rt, b"program choice by a sum\n")?;
-    let pool = [1i32, 2, 3, 4, 1, -2, 2, 2, 1, -3];
-    let rows = [1u16, 0, 2, 0, 3, 2, 2, 2, 0, 9, 0, 1];
-    let wished = [2i32];
-    let models = [10u32, 14, 11, 15];
-    run::run(rt, &pool, &rows, 3, 4, &wished, 1, &models)
+pub fn choice_by_sum() -> Program<'static> {
+    Program {
+        name: "choice by a sum",
+        table: RuleTable {
+            atoms: 4,
+            pool: &[1, 2, 3, 4, 1, -2, 2, 2, 1, -3],
+            rows: &[
+                row!(Choice, Normal, 0, 2, 0),
+                row!(Choice, Weighted, 2, 2, 2),
+                row!(Plain, Normal, 9, 0, 1),
+            ],
+        },
+        wished: &[2],
+        models: &[10, 14, 11, 15],
+    }
 }

@@ -14,6 +14,6 @@ returns-then-row-eq0 c =
 
 pub returns-else-is_choice : goal.returns-else-is_choice
 returns-else-is_choice c = elim c.else-is_choice.branch [
-    else-is_choice-via-then-is_choice+else-row-eq0 w ↦ rule_bodied c.args.pool.now c.args.row (sym c.is_weighted.ensures ∙ c.if-is_weighted.false) w.if-row-eq0.false (search rules)
-    | else-is_choice-via-else-is_choice w ↦ rule_plain c.args.pool.now c.args.row (sym c.is_choice.ensures ∙ w.if-is_choice.false) (search rules)
-  ]
+  | else-is_choice-via-then-is_choice+else-row-eq0 w ↦ rule_bodied c.args.pool.now c.args.row (sym c.is_weighted.ensures ∙ c.if-is_weighted.false) w.if-row-eq0.false (search rules)
+  | else-is_choice-via-else-is_choice w ↦ rule_plain c.args.pool.now c.args.row (sym c.is_choice.ensures ∙ w.if-is_choice.false) (search rules)
+]

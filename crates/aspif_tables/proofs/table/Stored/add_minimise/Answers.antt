@@ -8,4 +8,4 @@ returns c =
     let line = c.in_ok-line.ensures in
     let b = back c.in_ok-line.line.priority (omega (arith, line.small)) in
     let v = rw b at c.insert_level-levels.ensures.0 in
-    (minimise_added _ _ _ _ _ _ _ _ c.args.self.now.counts _ _ _ _ _ line.kept.0 line.kept.1 line.kept.2 c.args.end line.answer line.top v c.insert_level-levels.auto.levels, refl)
+    (minimise_added _ _ _ _ c.args.self.now.counts _ _ _ _ _ line.kept c.args.end line.answer line.top v c.insert_level-levels.auto.levels, refl)

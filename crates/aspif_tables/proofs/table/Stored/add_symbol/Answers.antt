@@ -1,6 +1,7 @@
 use Rattle.std.proofs.Common.{refl, arith, length, ◌-◌}
 use Rattle.aspif_lines.proofs.Names.{bytes_after}
-use Rattle.aspif_tables.proofs.Added.{symbol_added}
+use Rattle.asp.specs.Tables.{no_symbol}
+use Rattle.aspif_tables.proofs.Added.{pushed_set, symbol_added}
 use Rattle.aspif_tables.proofs.table.Stored.add_symbol.Goals as goal
 
 pub returns : goal.returns
@@ -11,4 +12,4 @@ returns c =
     let part = c.requires.part in
     let before = length s - length rest in
     let name = rw (← part.is) at (bytes_after s before c.in_ok-line.line.name c.in_ok-line.line.length) in
-    (symbol_added _ _ _ _ _ c.args.self.now.counts _ _ _ _ _ s _ c.requires.sound line.kept c.push_row.ensures (omega (arith, line.small.inside, part.less)) c.requires.ends.0 c.requires.stored (rw name at line.answer) line.top, refl)
+    (symbol_added _ _ _ _ _ c.args.self.now.counts _ _ _ _ _ s _ c.requires.sound line.kept (pushed_set no_symbol _ _ _ (omega arith)) (omega (arith, line.small.inside, part.less)) c.requires.ends.0 c.requires.stored (rw name at line.answer) line.top, refl)

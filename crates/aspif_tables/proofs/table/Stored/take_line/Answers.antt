@@ -26,13 +26,13 @@ returns-in_ok-add_rule-in-1 c =
 pub returns-in_err-add_minimise-in-2-clause-answer : goal.returns-in_err-add_minimise-in-2-clause-answer
 returns-in_err-add_minimise-in-2-clause-answer c =
     let p = err_from_is_err_and c.from_residual-in_err-add_minimise-in-2.result c.from_residual-in_err-add_minimise-in-2.ensures.1 in
-    rw (p.1, p.2) (minimise_stops _ _ _ _ _ c.requires.sound c.append_line-end.ensures.0 c.append_line-end.ensures.1 c.append_line-end.ensures.2 _ _ (sym c.in_ok-read_number.ensures.answer) c.args.self.now.priorities c.args.self.now.literals c.args.self.now.weights c.args.self.now.levels c.in-2.is _ c.in_err-add_minimise-in-2.ensures)
+    rw (p.1, p.2) (minimise_stops _ _ _ _ _ c.requires.sound c.append_line-end.ensures.0 c.append_line-end.ensures.1 c.append_line-end.ensures.2 _ _ (sym c.in_ok-read_number.ensures.answer) c.args.self.now.entries c.args.self.now.levels c.in-2.is _ c.in_err-add_minimise-in-2.ensures)
 
 pub returns-in_ok-add_minimise-in-2 : goal.returns-in_ok-add_minimise-in-2
 returns-in_ok-add_minimise-in-2 c =
     let num = sym c.in_ok-read_number.ensures.answer in
     let added = c.in_ok-add_minimise-in-2.ensures in
-    let led = leads_at _ _ _ _ _ c.requires.sound c.append_line-end.ensures.0 c.append_line-end.ensures.1 c.append_line-end.ensures.2 _ _ num _ Goes (ap lists_of added.1) (minimise_goes _ _ _ _ _ c.requires.sound c.append_line-end.ensures.0 c.append_line-end.ensures.1 c.append_line-end.ensures.2 _ _ num _ _ _ _ c.in-2.is _ added.0) in
+    let led = leads_at _ _ _ _ _ c.requires.sound c.append_line-end.ensures.0 c.append_line-end.ensures.1 c.append_line-end.ensures.2 _ _ num _ Goes (ap lists_of added.1) (minimise_goes _ _ _ _ _ c.requires.sound c.append_line-end.ensures.0 c.append_line-end.ensures.1 c.append_line-end.ensures.2 _ _ num _ _ c.in-2.is _ added.0) in
     record { answer = led.0; after = led.1 }
 
 pub returns-in_err-add_symbol-in-4-clause-answer : goal.returns-in_err-add_symbol-in-4-clause-answer

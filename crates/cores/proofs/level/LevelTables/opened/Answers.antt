@@ -10,8 +10,8 @@ pub loop-e-preserved : goal.loop-e-preserved
 loop-e-preserved c =
     elim c.if-weighs_on.branch [
       | then-weighs_on w ↦
-        let x : w.of_entry.result ≡ soft_of (entry_at c.args.entries.now c.loop-e.e-index) = rw (to_z-of_z (record { sfits = w.paid_literal.type_inv }), w.paid_literal.ensures, w.size.ensures) at w.of_entry.ensures in
-        open_put_at c.loop-e.invariant c.loop-e-test.true (sym c.weighs_on.ensures ∙ w.if-weighs_on.true) x w.put_soft.ensures w.t-is
+          let x : w.of_entry.result ≡ soft_of (entry_at c.args.entries.now c.loop-e.e-index) = rw (to_z-of_z (record { sfits = w.paid_literal.type_inv }), w.paid_literal.ensures, w.size.ensures) at w.of_entry.ensures in
+          open_put_at c.loop-e.invariant c.loop-e-test.true (sym c.weighs_on.ensures ∙ w.if-weighs_on.true) x w.put_soft.ensures w.t-is
       | else-weighs_on w ↦ open_skip c.loop-e.invariant c.loop-e-test.true (sym c.weighs_on.ensures ∙ w.if-weighs_on.false) w.t-is
     ]
 
