@@ -77,28 +77,22 @@ module _ {S : Source} {k : ℕ} {s : Search} (r : ReadyRun S k s) {x : Turn} {t 
   going_is h {c} f =
       run_is f (sym (ap (λ (y : Bool). pick y (search s.phase c t b s.work) (ended_query c (finish_of S.levels s.phase s.work t.value (blamed_of b) x))) h))
 
-  -- it has ended: its core is recorded or not, the figures are those of the end, a level is opened or not
-  pub end_is : is_going x ≡ false → {c : ℕ} → c ≡ bumped_by m s.advances → {ms : List ℕ} → ms ≡ blamed_of b
-      → {y : Bool} → y ≡ records_of s.phase x s.work.tables (length ms) → {u : Work} → u ≡ pick y (recorded_work s.work ms) s.work
-      → {n : Ending} → Ends S.levels u n (finished_of S.levels s.phase y u t.value x)
-      → {v : Work} → v ≡ standing_of u n → {w : Work} → w ≡ pick n.opens (begun_at S.levels v v.level) v
-      → {t₁ : Places} → t₁ ≡ fresh_places → {b₁ : Blame} → b₁ ≡ fresh_blame → after_run (search n.phase c t₁ b₁ w) m ≡ query_run S k s
-  end_is h {c} f {ms} g {y} q {u} e₁ {n} a {v} e₂ {w} e₃ f₁ f₂ =
-      run_is f (ended_is c there f₁ f₂ ∙ sym (ap (λ (z : Bool). pick z (search s.phase c t b s.work) (ended_query c (finish_of S.levels s.phase s.work t.value (blamed_of b) x))) h))
+  -- it has ended
+  pub end_is : is_going x ≡ false → {c : ℕ} → c ≡ bumped_by m s.advances → {u : Search} → u ≡ ended_query c (finish_of S.levels s.phase s.work t.value (blamed_of b) x) → after_run u m ≡ query_run S k s
+  end_is h {c} f g = run_is f (g ∙ sym (ap (λ (z : Bool). pick z (search s.phase c t b s.work) (ended_query c (finish_of S.levels s.phase s.work t.value (blamed_of b) x))) h))
+
+-- ---- an end: its core is recorded or not, the figures are those of the end, a level is opened or not
+module _ (L : Levels) (s : Search) (x : Turn) where
+  pub ended_by : {y : Bool} → y ≡ records_of s.phase x s.work.tables (length (blamed_of s.blame)) → {u : Work} → u ≡ pick y (recorded_work s.work (blamed_of s.blame)) s.work
+      → {n : Ending} → Ends L u n (finished_of L s.phase y u s.trail.value x)
+      → {w : Work} → w ≡ pick n.opens (begun_at L (standing_of u n) n.level) (standing_of u n)
+      → {t₁ : Places} → t₁ ≡ fresh_places → {b₁ : Blame} → b₁ ≡ fresh_blame → search n.phase s.advances t₁ b₁ w ≡ ended_query s.advances (finish_of L s.phase s.work s.trail.value (blamed_of s.blame) x)
+  ended_by {y} q {u} e₁ {n} a {w} e₃ f₁ f₂ = ended_is s.advances there f₁ f₂
     where
-      there : placed n.phase w ≡ finish_of S.levels s.phase s.work t.value (blamed_of b) x
+      there : placed n.phase w ≡ finish_of L s.phase s.work s.trail.value (blamed_of s.blame) x
       there =
-          ap (λ (z : Work). placed n.phase z) (e₃ ∙ ap (λ (z : Work). pick n.opens (begun_at S.levels z z.level) z) e₂) ∙ a.is
-          ∙ ap (λ (z : Work). finished_of S.levels s.phase y z t.value x) e₁ ∙ finish_by S.levels s.phase s.work t.value ms x q
-          ∙ ap (λ (z : List ℕ). finish_of S.levels s.phase s.work t.value z x) g
-
--- ---- a branch joined
-
-pub joined_yes : (x y : Work) {b : Bool} {w : Work} → b ≡ true → w ≡ x → w ≡ pick b x y
-joined_yes x y h e = e ∙ sym (ap (λ (c : Bool). pick c x y) h)
-
-pub joined_no : (x y : Work) {b : Bool} {w : Work} → b ≡ false → w ≡ y → w ≡ pick b x y
-joined_no x y h e = e ∙ sym (ap (λ (c : Bool). pick c x y) h)
+          ap (λ (z : Work). placed n.phase z) e₃ ∙ a.is
+          ∙ ap (λ (z : Work). finished_of L s.phase y z s.trail.value x) e₁ ∙ finish_by L s.phase s.work s.trail.value (blamed_of s.blame) x q
 
 -- ---- one turn of the loop of a run
 

@@ -8,8 +8,8 @@ use Rattle.optimizer.proofs.finish.begin.Goals as goal
 pub opened-w-requires : goal.opened-w-requires
 opened-w-requires c = record { few = c.requires.0.few; atoms = entries_small _ c.requires.0 }
 
-pub next_stratum-requires : goal.next_stratum-requires
-next_stratum-requires c =
+pub next_stratum-w-requires : goal.next_stratum-w-requires
+next_stratum-w-requires c =
     let fits : SFits w32 (get_or c.args.objective.now.levels.now c.args.w.now.level (pos 0)) = search rules in
     begun_formed (levels_lent c.args.objective.now) c.args.w.now.level c.requires.0 fits refl c.opened-w.ensures
 
