@@ -6,6 +6,7 @@ ghost use Rattle.planner.specs.Calls.{outcome, says, moved_to, advance_call, cou
 
 use crate::service::{Loaded, Refusal, Service, Status};
 use asp::cost::Objective;
+use optimizer::ground::Ground;
 
 // How many advances were made, and the status after them.
 #[derive(Clone, Copy, PartialEq, Eq, Debug)]
@@ -21,27 +22,20 @@ impl Loaded {
         ensures count { result ≡ count_of (made self.old budget) (status_of (ran self.old budget).phase) }
     {
         let counts = self.stored.counts;
-        let objective = Objective {
-            levels: &self.stored.levels[..counts.levels],
-            entries: &self.stored.entries[..counts.entries],
+        let ground = Ground {
+            atoms: counts.atoms,
+            pool: &self.stored.pool,
+            rows: &self.stored.rules,
+            rules: counts.rules,
+            objective: Objective {
+                levels: &self.stored.levels[..counts.levels],
+                entries: &self.stored.entries[..counts.entries],
+            },
+            prepared: &self.prepared,
         };
-        let after = optimizer::run::run(
-            counts.atoms,
-            &self.stored.pool,
-            &self.stored.rules,
-            counts.rules,
-            &objective,
-            &self.prepared.conditions.starts,
-            &self.prepared.conditions.rules,
-            &self.prepared.heads.starts,
-            &self.prepared.heads.rules,
-            &self.prepared.tried,
-            self.search,
-            budget,
-        );
-        self.search = after.search;
+        let made = optimizer::run::run(&ground, &mut self.search, budget);
         Count {
-            made: after.made,
+            made,
             status: Status::from(self.search.phase),
         }
     }
