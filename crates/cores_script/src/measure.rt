@@ -1,16 +1,16 @@
 // The figure of the identity: the remaining weights of the soft literals that a set violates.
-ghost use Rattle.std.specs.Prelude.{◌≡◌, ◌<◌, length};
+ghost use Rattle.std.specs.Prelude.{◌≡◌};
 ghost use Rattle.asp.specs.Sets.{set_of};
 ghost use Rattle.cores.specs.Identity.{violated_weight};
 ghost use Rattle.cores.specs.Tables.{level_of, SoundTables};
 
+use asp::atoms::AtomSet;
 use cores::level::LevelTables;
 use judging::judge::Cores;
 
-pub fn violated_weight(t: &LevelTables, model: &[u8]) -> u64
+pub fn violated_weight(t: &LevelTables, model: AtomSet<'_>) -> u64
     requires sound_tables { SoundTables t.now }
-    requires in_bounds { 1024 < length model.now }
-    ensures { result ≡ violated_weight (set_of model.now) (level_of t.now) }
+    ensures { result ≡ violated_weight (set_of model.entry.bytes.now) (level_of t.now) }
 {
     let cores = Cores::of(t);
     let mut counts = [0u16; 4097];

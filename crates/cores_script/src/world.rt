@@ -6,6 +6,7 @@ ghost use Rattle.cores_script.specs.Sound.{sound_prop};
 
 use crate::measure;
 use crate::numbers::Numbers;
+use asp::atoms::AtomSet;
 use asp::entries::Entry;
 use cores::level::LevelTables;
 use judging::query;
@@ -105,7 +106,7 @@ impl World {
                 *b = 1;
             }
         }
-        rt.println(measure::violated_weight(&self.tables, &model))
+        rt.println(measure::violated_weight(&self.tables, AtomSet { bytes: &model }))
     }
 
     // The next stratum below s, how many are assumed at s, and how many of them are an entry's.

@@ -40,30 +40,27 @@ impl<'a> Cores<'a> {
     }
 
     // Whether the soft literal at place p is violated.
-    // Kept: the set, a slice that is long enough, and the counts beside it stay parameters. A struct with the `&mut` in it would have to promise at each call that it holds the same
-    // tables and the same set, and an array for the set would ask more of callers.
+    // Kept: the counts of a set stay a parameter beside it. A struct with the `&mut` in it would have to promise at each call that it holds the same tables and the same set.
     #[cycle(count_violated)]
-    pub fn violated(&self, p: usize, model: &[u8], counts: &mut [u16]) -> bool
+    pub fn violated(&self, p: usize, model: AtomSet<'_>, counts: &mut [u16]) -> bool
         requires p_in_bounds { p < length self.now.softs.now }
-        requires in_bounds { 1024 < length model.now }
-        requires known { Known (tables_of self.now) (set_of model.now) counts.old }
-        ensures { Answers (tables_of self.now) (set_of model.now) counts.old result (violated_at (tables_of self.now) (set_of model.now) p) counts.new }
+        requires known { Known (tables_of self.now) (set_of model.bytes.now) counts.old }
+        ensures { Answers (tables_of self.now) (set_of model.entry.bytes.now) counts.old result (violated_at (tables_of self.now) (set_of model.entry.bytes.now) p) counts.new }
     {
         let r = soft_at(self.softs, p);
         let j = usize::from(r.core);
         if j == 0 {
-            return AtomSet { bytes: model }.holds(r.literal);
+            return model.holds(r.literal);
         }
         usize::from(r.index) < self.count(j, model, counts)
     }
 
     // How many members of core j are violated.
     #[cycle(count_violated)]
-    pub fn count(&self, j: usize, model: &[u8], counts: &mut [u16]) -> usize
+    pub fn count(&self, j: usize, model: AtomSet<'_>, counts: &mut [u16]) -> usize
         requires le_j { (1 ≤ j) × (j < length self.now.ends.now) }
-        requires in_bounds { 1024 < length model.now }
-        requires known { Known (tables_of self.now) (set_of model.now) counts.old }
-        ensures { CountAnswers (tables_of self.now) (set_of model.now) counts.old result j counts.new }
+        requires known { Known (tables_of self.now) (set_of model.bytes.now) counts.old }
+        ensures { CountAnswers (tables_of self.now) (set_of model.entry.bytes.now) counts.old result j counts.new }
     {
         let old = usize::from(counts[j]);
         if old != 0 {
@@ -80,11 +77,15 @@ impl<'a> Cores<'a> {
     }
 
     // The first of the places that is violated.
-    pub fn first_violated(&self, places: &[u16], model: &[u8], counts: &mut [u16]) -> Option<usize>
+    pub fn first_violated(
+        &self,
+        places: &[u16],
+        model: AtomSet<'_>,
+        counts: &mut [u16],
+    ) -> Option<usize>
         requires all { All (λ m. m < length self.now.softs.now) places.now }
-        requires in_bounds { 1024 < length model.now }
-        requires known { Known (tables_of self.now) (set_of model.now) counts.old }
-        ensures { Answers (tables_of self.now) (set_of model.now) counts.old result (first_violated (violated_at (tables_of self.now) (set_of model.now)) places.now) counts.new }
+        requires known { Known (tables_of self.now) (set_of model.bytes.now) counts.old }
+        ensures { Answers (tables_of self.now) (set_of model.entry.bytes.now) counts.old result (first_violated (violated_at (tables_of self.now) (set_of model.entry.bytes.now)) places.now) counts.new }
     {
         for p in places {
             let p = usize::from(*p);
@@ -100,14 +101,13 @@ impl<'a> Cores<'a> {
         &self,
         places: &[u16],
         more: &[u16],
-        model: &[u8],
+        model: AtomSet<'_>,
         counts: &mut [u16],
     ) -> Option<usize>
         requires all { All (λ m. m < length self.now.softs.now) places.now }
         requires all_2 { All (λ m. m < length self.now.softs.now) more.now }
-        requires in_bounds { 1024 < length model.now }
-        requires known { Known (tables_of self.now) (set_of model.now) counts.old }
-        ensures { result ≡ first_violated (violated_at (tables_of self.now) (set_of model.now)) (places.now ++ more.now) }
+        requires known { Known (tables_of self.now) (set_of model.bytes.now) counts.old }
+        ensures { result ≡ first_violated (violated_at (tables_of self.now) (set_of model.entry.bytes.now)) (places.now ++ more.now) }
     {
         // Kept: a match and no `or_else`, of which the proof did not close, since its closure lends the counts on.
         match self.first_violated(places, model, counts) {
@@ -117,11 +117,10 @@ impl<'a> Cores<'a> {
     }
 
     // The same with no count kept yet. Each core is counted once at most.
-    pub fn judge_both(&self, places: &[u16], more: &[u16], model: &[u8]) -> Option<usize>
+    pub fn judge_both(&self, places: &[u16], more: &[u16], model: AtomSet<'_>) -> Option<usize>
         requires all { All (λ m. m < length self.now.softs.now) places.now }
         requires all_2 { All (λ m. m < length self.now.softs.now) more.now }
-        requires in_bounds { 1024 < length model.now }
-        ensures { result ≡ first_violated (violated_at (tables_of self.now) (set_of model.now)) (places.now ++ more.now) }
+        ensures { result ≡ first_violated (violated_at (tables_of self.now) (set_of model.entry.bytes.now)) (places.now ++ more.now) }
     {
         // This is done at each stable leaf: where there are few cores, clearing all 8 KB costs more than counting them.
         if self.ends.len() <= 64 {

@@ -22,18 +22,15 @@ use Rattle.advancing.specs.declared.state.Work.{Work}
 use Rattle.advancing.specs.declared.state.Search.{Search}
 use Rattle.advancing.specs.declared.state.Turn.{Turn}
 use Rattle.advancing.specs.declared.state.Turn.TheVariants.{Without}
-use Rattle.optimizer.specs.declared.finish.Ending.{Ending}
 use Rattle.advancing.specs.Source.{Source, Levels, many}
 use Rattle.advancing.specs.Turn.{QueryTables, turned, Turns, turns, turn_of, turns_of, is_going, blamed_of}
 use Rattle.search.specs.Places.{fresh_places}
 use Rattle.advancing.specs.State.{work, fresh_search, fresh_for, search, fresh_blame, is_running}
-use Rattle.advancing.specs.Finish.{Placed, placed, begun_at, costs_of, finish_of}
-use Rattle.optimizer.specs.Ending.{records_of, recorded_work, finished_of, standing_of, Ends}
+use Rattle.advancing.specs.Finish.{Placed, placed, costs_of, finish_of}
 use Rattle.advancing.specs.Advance.{ended_query, after_turns, work_query}
 use Rattle.advancing.specs.Ready.{ReadyQuery, GoodBlame, ReadyCore}
 use Rattle.advancing.specs.Run.{bumped_by, after_run, steps_of, query_run, ReadyRun, Steady, run_of}
 use Rattle.advancing.proofs.Stepping.{turn_sound, turn_blame}
-use Rattle.optimizer.proofs.Finishing.{finish_by}
 use Rattle.advancing.proofs.Advancing.{Running, running_ready, running_end, made_more, running_next}
 
 pub ended_is : (c : ℕ) {x : Placed} {p : Phase} {w : Work} → placed p w ≡ x → {t : Places} → t ≡ fresh_places → {b : Blame} → b ≡ fresh_blame → search p c t b w ≡ ended_query c x
@@ -80,19 +77,6 @@ module _ {S : Source} {k : ℕ} {s : Search} (r : ReadyRun S k s) {x : Turn} {t 
   -- it has ended
   pub end_is : is_going x ≡ false → {c : ℕ} → c ≡ bumped_by m s.advances → {u : Search} → u ≡ ended_query c (finish_of S.levels s.phase s.work t.value (blamed_of b) x) → after_run u m ≡ query_run S k s
   end_is h {c} f g = run_is f (g ∙ sym (ap (λ (z : Bool). pick z (search s.phase c t b s.work) (ended_query c (finish_of S.levels s.phase s.work t.value (blamed_of b) x))) h))
-
--- ---- an end: its core is recorded or not, the figures are those of the end, a level is opened or not
-module _ (L : Levels) (s : Search) (x : Turn) where
-  pub ended_by : {y : Bool} → y ≡ records_of s.phase x s.work.tables (length (blamed_of s.blame)) → {u : Work} → u ≡ pick y (recorded_work s.work (blamed_of s.blame)) s.work
-      → {n : Ending} → Ends L u n (finished_of L s.phase y u s.trail.value x)
-      → {w : Work} → w ≡ pick n.opens (begun_at L (standing_of u n) n.level) (standing_of u n)
-      → {t₁ : Places} → t₁ ≡ fresh_places → {b₁ : Blame} → b₁ ≡ fresh_blame → search n.phase s.advances t₁ b₁ w ≡ ended_query s.advances (finish_of L s.phase s.work s.trail.value (blamed_of s.blame) x)
-  ended_by {y} q {u} e₁ {n} a {w} e₃ f₁ f₂ = ended_is s.advances there f₁ f₂
-    where
-      there : placed n.phase w ≡ finish_of L s.phase s.work s.trail.value (blamed_of s.blame) x
-      there =
-          ap (λ (z : Work). placed n.phase z) e₃ ∙ a.is
-          ∙ ap (λ (z : Work). finished_of L s.phase y z s.trail.value x) e₁ ∙ finish_by L s.phase s.work s.trail.value (blamed_of s.blame) x q
 
 -- ---- one turn of the loop of a run
 

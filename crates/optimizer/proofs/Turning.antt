@@ -10,7 +10,7 @@ use lib.IntN.{ℤ}
 use lib.ListN.{length}
 use Rattle.asp.specs.Sets.{Set, set_of, pick}
 use Rattle.search.specs.declared.trail.Places.{Places}
-use Rattle.search.specs.Places.{places, SoundTrail, back_of}
+use Rattle.search.specs.Places.{SoundTrail, back_of}
 use Rattle.search.specs.Soft.{assumed_entries}
 use Rattle.search.specs.Step.{test_of, Stepped, stepped, step_of, moved_by}
 use Rattle.search.specs.declared.step.Tested.{Tested}
@@ -21,7 +21,7 @@ use Rattle.advancing.specs.declared.state.Turn.TheVariants.{Going, Without, Mode
 use Rattle.advancing.specs.declared.state.Judgement.{Judgement}
 use Rattle.advancing.specs.declared.state.Judgement.TheVariants.{Wanted, Dead, Violated}
 use Rattle.advancing.specs.Source.{Source, rule_tables, Tries}
-use Rattle.advancing.specs.Turn.{QueryTables, blame_tables, blamed_of, blame_entry, blame_place, judge_full, Turned, turned, backed, judged_turn, turn_by, assumed_by, turn_of, is_going, Turns, turns, one_more, go_on, turns_of}
+use Rattle.advancing.specs.Turn.{QueryTables, blamed_of, blame_entry, blame_place, judge_full, Turned, turned, backed, judged_turn, turn_by, assumed_by, turn_of, is_going, Turns, turns, one_more, go_on, turns_of}
 use Rattle.advancing.specs.Ready.{ReadyQuery, GoodBlame}
 use Rattle.optimizer.specs.Turning.{backed_turn}
 use Rattle.advancing.proofs.Stepping.{first_is, turn_sound, turn_blame}

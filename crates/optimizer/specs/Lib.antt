@@ -1,4 +1,3 @@
 pub mod Turning
-pub mod Ending
 pub mod Prepare
 pub mod Lent

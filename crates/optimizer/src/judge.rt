@@ -87,7 +87,10 @@ pub fn judge_full(
     ensures { result ≡ judge_full (source_lent g.now) (query_lent q.now) blamed.now value.now }
 {
     if in_class(g, q, value, numbers) {
-        return soft_or_wanted(q.cores.judge_both(blamed, q.assumed, value));
+        return soft_or_wanted(
+            q.cores
+                .judge_both(blamed, q.assumed, AtomSet { bytes: value }),
+        );
     }
     Judgement::Dead
 }

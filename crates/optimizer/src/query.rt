@@ -1,8 +1,7 @@
 // Steps of one query: the level's tables are lent to every step.
 ghost use Rattle.std.specs.Prelude.{◌≡◌, ◌≤◌, length};
 ghost use Rattle.search.specs.Places.{SoundTrail};
-ghost use Rattle.cores.specs.Level.{under};
-ghost use Rattle.cores.specs.Tables.{level_of, SoundTables};
+ghost use Rattle.cores.specs.Tables.{SoundTables};
 ghost use Rattle.cores.specs.Columns.{rests_of};
 ghost use Rattle.judging.specs.Lent.{tables_of};
 ghost use Rattle.advancing.specs.Turn.{query_by, turned, turns, turns_of};
@@ -13,19 +12,11 @@ ghost use Rattle.optimizer.specs.Lent.{source_lent, query_lent};
 use crate::ground::Ground;
 use crate::turn;
 use crate::turn::{Numbers, Query, Steps};
-use advancing::state::{Blame, Turn, Work};
+use advancing::state::{Blame, Work};
 use indexing::fill;
 use judging::judge::Cores;
 use judging::query;
 use search::trail::Places;
-
-// What steps came to, how many they were, and the greatest remaining weight below the stratum.
-#[derive(Clone, Copy, PartialEq, Eq, Debug)]
-pub struct Asked {
-    pub turn: Turn,
-    pub made: u32,
-    pub below: u32,
-}
 
 // Steps of a query whose tables are lent, by numbers that are filled anew.
 fn run_lent(
@@ -95,21 +86,15 @@ pub fn run_query(
     blame: &mut Blame,
     trail: &mut Places,
     budget: u32,
-) -> Asked
+) -> Steps
     requires ready_query { ReadyQuery (source_lent g.now) (work_query w.now) }
     requires good_blame { GoodBlame (work_query w.now) blame.old }
     requires sound_trail { SoundTrail g.now.atoms trail.old }
     requires sound_tables { SoundTables w.now.tables }
-    ensures turns { turns (turned result.turn trail.new blame.new) result.made ≡ turns_of (source_lent g.now) (work_query w.now) budget trail.old blame.old }
-    ensures below { result.below ≡ under w.now.stratum (level_of w.now.tables).rests }
+    ensures { turns (turned result.turn trail.new blame.new) result.made ≡ turns_of (source_lent g.now) (work_query w.now) budget trail.old blame.old }
 {
     let cores = Cores::of(&w.tables);
-    let steps = run_columns(
+    run_columns(
         g, w.level, &w.lowers, w.stratum, cores, blame, trail, budget,
-    );
-    Asked {
-        turn: steps.turn,
-        made: steps.made,
-        below: query::next_stratum(cores.softs, w.stratum),
-    }
+    )
 }

@@ -1,7 +1,6 @@
 // Advances of an optimization.
 ghost use Rattle.std.specs.Prelude.{◌≡◌, ◌≤◌, ◌<◌, length, pos, replicate};
-ghost use Rattle.cores.specs.Level.{under};
-ghost use Rattle.cores.specs.Tables.{level_of};
+ghost use Rattle.cores.specs.Tables.{FormedTables};
 ghost use Rattle.advancing.specs.Source.{levels_lent, FormedLevels};
 ghost use Rattle.advancing.specs.Turn.{blamed_of};
 ghost use Rattle.advancing.specs.State.{fresh_blame, fresh_search, fresh_for};
@@ -29,28 +28,17 @@ fn fresh_blame() -> Blame
     }
 }
 
-// A query has ended: its core is recorded or not, the figures are those of the end, a level is opened or not. "An ended question empties the path, and the same advance
-// prepares the next."
-fn end_query(objective: &Objective<'_>, s: &mut Search, turn: Turn, below: u32)
+// A query has ended. "An ended question empties the path, and the same advance prepares the next."
+fn end_query(objective: &Objective<'_>, s: &mut Search, turn: Turn)
     requires levels { FormedLevels (levels_lent objective.now) }
     requires level { s.old.phase ≡ Phase.Level → s.old.work.level < length objective.now.levels.now }
+    requires tables { FormedTables s.old.work.tables }
     requires blame { s.old.blame.from ≤ 4096 }
     requires core { s.old.phase ≡ Phase.Level → turn ≡ Turn.Without → ReadyCore s.old.work (blamed_of s.old.blame) }
-    requires below { turn ≡ Turn.Model → below ≡ under s.old.work.stratum (level_of s.old.work.tables).rests }
     ensures { s.new ≡ ended_query s.old.advances (finish_of (levels_lent objective.now) s.old.phase s.old.work s.old.trail.value (blamed_of s.old.blame) turn) }
 {
-    let recorded = finish::record_core(s.phase, turn, &mut s.work, blame::blamed(&s.blame));
-    let e = finish::finish(
-        objective,
-        s.phase,
-        recorded,
-        s.work,
-        below,
-        s.trail.value,
-        turn,
-    );
-    finish::place(objective, &mut s.work, &e);
-    s.phase = e.phase;
+    let core = blame::blamed(&s.blame);
+    s.phase = finish::finish(objective, s.phase, &mut s.work, core, &s.trail.value, turn);
     s.trail = trail::fresh();
     s.blame = fresh_blame();
 }
@@ -65,13 +53,13 @@ pub fn run(g: &Ground<'_>, s: &mut Search, budget: u32) -> u32
         if !s.phase.is_running() {
             return made;
         }
-        let asked = query::run_query(g, &s.work, &mut s.blame, &mut s.trail, budget - made);
-        made += asked.made;
-        s.advances = state::counted(s.advances, asked.made);
-        if turn::is_going(asked.turn) {
+        let steps = query::run_query(g, &s.work, &mut s.blame, &mut s.trail, budget - made);
+        made += steps.made;
+        s.advances = state::counted(s.advances, steps.made);
+        if turn::is_going(steps.turn) {
             return made;
         }
-        end_query(&g.objective, s, asked.turn, asked.below);
+        end_query(&g.objective, s, steps.turn);
     }
     made
 }

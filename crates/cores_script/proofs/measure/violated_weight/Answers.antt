@@ -21,4 +21,4 @@ pub returns : goal.returns
 returns c =
     let cores = c.of-cores.ensures in
     let sum = sum_all c.of-cores.result.softs.now c.loop-p.invariant (omega arith) in
-    rw (cores.softs, cores.ends, cores.members) at sum ∙ level_sum c.args.t.now c.requires.sound_tables.formed (set_of c.args.model.now)
+    rw (cores.softs, cores.ends, cores.members) at sum ∙ level_sum c.args.t.now c.requires.sound_tables.formed (set_of c.args.model.bytes.now)

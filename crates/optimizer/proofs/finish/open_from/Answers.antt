@@ -1,9 +1,9 @@
-use borrow.Author.Rules.{rules}
+use Rattle.advancing.specs.Source.{levels_lent}
 use Rattle.optimizer.proofs.Finishing.{open_yes, open_no}
 use Rattle.optimizer.proofs.finish.open_from.Goals as goal
 
-pub returns-then-x-objective : goal.returns-then-x-objective
-returns-then-x-objective c = search (open_yes, rules)
+pub returns-then-objective-w : goal.returns-then-objective-w
+returns-then-objective-w c = open_no (levels_lent c.args.objective.now) c.args.w.now c.args.j c.next_level-w.ensures.0 c.if-objective-w.true
 
 pub returns : goal.returns
-returns c = search (open_no, rules)
+returns c = open_yes (levels_lent c.args.objective.now) c.args.w.now c.args.j c.next_level-w.ensures.0 c.if-objective-w.false c.begin.ensures

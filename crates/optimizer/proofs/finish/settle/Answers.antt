@@ -1,9 +1,9 @@
-use borrow.Author.Rules.{rules}
+use Rattle.advancing.specs.Source.{levels_lent}
 use Rattle.optimizer.proofs.Finishing.{settle_yes, settle_no}
 use Rattle.optimizer.proofs.finish.settle.Goals as goal
 
-pub returns-then-bounds_meet : goal.returns-then-bounds_meet
-returns-then-bounds_meet c = search (settle_yes, rules)
+pub returns-then-not-bounds_meet : goal.returns-then-not-bounds_meet
+returns-then-not-bounds_meet c = settle_no (levels_lent c.args.objective.now) c.args.w.now c.bounds_meet.ensures c.if-not-bounds_meet.true
 
 pub returns : goal.returns
-returns c = search (settle_no, rules)
+returns c = settle_yes (levels_lent c.args.objective.now) c.args.w.now c.bounds_meet.ensures c.if-not-bounds_meet.false c.open_from.ensures

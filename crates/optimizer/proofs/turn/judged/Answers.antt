@@ -1,4 +1,4 @@
-use Rattle.std.proofs.Common.{arith, ◌≡◌, ◌<◌, ℕ, List, sym, ap, ◌∙◌}
+use Rattle.std.proofs.Common.{arith, ◌<◌, ℕ, List, sym, ap, ◌∙◌}
 use Rattle.advancing.specs.Turn.{judge_full}
 use Rattle.advancing.specs.Ready.{softs}
 use Rattle.advancing.proofs.Stepping.{blame_room, violated_in_lem}

@@ -1,4 +1,4 @@
-use Rattle.std.proofs.Common.{arith, ◌≡◌, ◌<◌, length, get_or, sym, ap, ◌∙◌}
+use Rattle.std.proofs.Common.{arith, ◌<◌, length, get_or, sym, ap, ◌∙◌}
 use Rattle.search.specs.Step.{Stepped}
 use Rattle.search.proofs.Kept.{after_step}
 use Rattle.advancing.specs.Turn.{assumed_by}

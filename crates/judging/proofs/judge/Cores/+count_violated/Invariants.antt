@@ -13,4 +13,4 @@ abbrev pub decreases-violated : goal.decreases-violated
 decreases-violated l = get_or (cores_of l.self.now.softs.now) l.p 0 + get_or (cores_of l.self.now.softs.now) l.p 0 + 1
 
 abbrev pub invariant-count-loop-k : goal.invariant-count-loop-k
-invariant-count-loop-k l = Counting (tables_of l.self) (set_of l.model) l.j l.k-end l.initial.counts l.counts l.k l.n
+invariant-count-loop-k l = Counting (tables_of l.self) (set_of l.model.bytes.now) l.j l.k-end l.initial.counts l.counts l.k l.n
