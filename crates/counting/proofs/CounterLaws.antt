@@ -11,7 +11,8 @@ use Rattle.asp.specs.Sets.{pick}
 use Rattle.counting.specs.declared.counters.Marks.{Marks}
 use Rattle.counting.specs.declared.counters.Index.{Index}
 use Rattle.counting.specs.Moves.{RowReadable, ListReadable}
-use Rattle.counting.specs.Counters.{index, Shaped, Counters, counters, marks, plus_one, least, lower_marks, raise_marks, freed_marks, freed, lower_at, raise_at, lower_from, raise_from, first, list_length, shift_of, decide_of, release_of, broken_after, put_marks, put_at, renew_at, is_named, Bodies, number_of, weigh_from, weigh_of}
+use Rattle.counting.specs.declared.counters.Counters.{Counters}
+use Rattle.counting.specs.Counters.{index, Shaped, counters, marks, plus_one, least, lower_marks, raise_marks, freed_marks, freed, lower_at, raise_at, lower_from, raise_from, first, list_length, shift_of, decide_of, release_of, broken_after, put_marks, put_at, renew_at, is_named, Bodies, number_of, weigh_from, weigh_of}
 
 pub more_one : (k : ℕ) → k < 65535 → k + 1 ≡ plus_one k
 more_one k h = rw (lt-ltb k 65535 h)
@@ -49,12 +50,12 @@ marks_freed m a e = rw e
 
 -- ---- one rule
 
-module _ (key : List ℕ) (r : ℕ) (m : Marks) where
-  pub lower_one : {x : ℕ} {n : Marks} → x ≡ get_or key r 0 - 1 → n ≡ lower_marks r (get_or key r 0) m → counters (set key r x) n ≡ lower_at r (counters key m)
+module _ (t : Counters) (r : ℕ) where
+  pub lower_one : {x : ℕ} {n : Marks} → x ≡ get_or t.key r 0 - 1 → n ≡ lower_marks r (get_or t.key r 0) t.marks → counters (set t.key r x) n ≡ lower_at r t
   unfolding lower_at
   lower_one e q = rw (e, q)
 
-  pub raise_one : {x : ℕ} {n : Marks} → x ≡ plus_one (get_or key r 0) → n ≡ raise_marks (get_or key r 0) m → counters (set key r x) n ≡ raise_at r (counters key m)
+  pub raise_one : {x : ℕ} {n : Marks} → x ≡ plus_one (get_or t.key r 0) → n ≡ raise_marks (get_or t.key r 0) t.marks → counters (set t.key r x) n ≡ raise_at r t
   unfolding raise_at
   raise_one e q = rw (e, q)
 
@@ -181,11 +182,11 @@ module _ (rs : List ℕ) (a k : ℕ) (key : List ℕ) (m : Marks) {key₁ : List
   pub lowered_long : counters key₁ m₁ ≡ lower_from rs a k (counters key m) → length key ≡ 2048 → length key₁ ≡ 2048
   lowered_long q h = ap (λ (t : Counters). length t.key) q ∙ lower_all_len rs a k (counters key m) ∙ h
 
-module _ (s rs : List ℕ) (down up : ℕ) where
-  pub shifted : {a b c d : ℕ} → a ≡ get_or s down 0 → b ≡ get_or s (down + 1) 0 → c ≡ get_or s up 0 → d ≡ get_or s (up + 1) 0
-      → (t : Counters) {t₁ t₂ : Counters} → t₁ ≡ lower_from rs a (b - a) t → t₂ ≡ raise_from rs c (d - c) t₁ → t₂ ≡ shift_of (index s rs) down up t
+module _ (o : Index) (down up : ℕ) where
+  pub shifted : {a b : ℕ} → a ≡ get_or o.starts down 0 → b ≡ get_or o.starts (down + 1) 0
+      → (t : Counters) {t₁ t₂ : Counters} → t₁ ≡ lower_from o.rules a (b - a) t → t₂ ≡ raise_from o.rules (first o up) (list_length o up) t₁ → t₂ ≡ shift_of o down up t
   unfolding shift_of
-  shifted ea eb ec ed t p q = rw (q, p, ea, eb, ec, ed)
+  shifted ea eb t p q = rw (q, p, ea, eb)
 
 module _ (o : Index) (a s : ℕ) (t : Counters) where
   pub decided_in : s ≡ 1 → {t₁ : Counters} → t₁ ≡ shift_of o (a * 2) (a * 2 + 1) t → t₁ ≡ decide_of o a s t
@@ -337,6 +338,6 @@ module _ (b : Bodies) (v rs : List ℕ) (from end : ℕ) where
   unfolding weigh_from
   weighing_done {t₀} {t} {e} w h = let q : end - e ≡ 0 = omega arith in rw q at w.rest
 
-pub weighed_all : (b : Bodies) (s rs v : List ℕ) (a : ℕ) (t : Counters) {x y : ℕ} → x ≡ get_or s (2050 + a) 0 → y ≡ get_or s (2050 + a + 1) 0 → {t₁ : Counters} → t₁ ≡ weigh_from b v rs x (y - x) t → t₁ ≡ weigh_of b (index s rs) a v t
+pub weighed_all : (b : Bodies) (o : Index) (v : List ℕ) (a : ℕ) (t : Counters) {x y : ℕ} → x ≡ get_or o.starts (2050 + a) 0 → y ≡ get_or o.starts (2050 + a + 1) 0 → {t₁ : Counters} → t₁ ≡ weigh_from b v o.rules x (y - x) t → t₁ ≡ weigh_of b o a v t
 unfolding weigh_of
-weighed_all b s rs v a t ex ey e = rw (ex, ey) at e
+weighed_all b o v a t ex ey e = rw (ex, ey) at e

@@ -20,7 +20,8 @@ use Rattle.search.specs.declared.scan.Rest.TheVariants.{All, Off}
 use Rattle.search.specs.Scan.{cond_at, free_of, meet_of, meets, head_conditions}
 use Rattle.search.specs.Weigh.{owed_at, met_at, least_at, breaker_of, body_rest}
 use Rattle.search.proofs.ScanLaws.{off_stays}
-use Rattle.counting.specs.Counters.{Counters, counters, rest_number, weigh_number, Bodies, number_of, put_marks, put_at, renew_at, weigh_from}
+use Rattle.counting.specs.declared.counters.Counters.{Counters}
+use Rattle.counting.specs.Counters.{counters, rest_number, weigh_number, Bodies, number_of, put_marks, put_at, renew_at, weigh_from}
 use Rattle.counting.specs.Counts.{sum_from, count_from, MarksRight}
 use Rattle.counting.proofs.Marking.{put_marked, put_at_lem, put_other}
 

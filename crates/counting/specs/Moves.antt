@@ -6,7 +6,8 @@ use Rattle.asp.specs.Tables.{is_choice, is_weighted, row_at}
 use Rattle.search.specs.declared.trail.Places.{Places}
 use Rattle.search.specs.Places.{side_of, put_of, drop_of}
 use Rattle.counting.specs.declared.counters.Index.{Index}
-use Rattle.counting.specs.Counters.{Shaped, Counters, first, list_length, decide_of, release_of, Bodies, weigh_of}
+use Rattle.counting.specs.declared.counters.Counters.{Counters}
+use Rattle.counting.specs.Counters.{Shaped, first, list_length, decide_of, release_of, Bodies, weigh_of}
 
 pub record CountedTrail : Type 0 where
   pub trail : Places

@@ -1,6 +1,6 @@
 // A number for each rule: 1 for each undecided condition, 2 for each false one, and 2 more for a choice rule. So 0 is a broken rule, and 1 one with a single literal left.
-ghost use Rattle.std.specs.Prelude.{◌≡◌, ℕ, ◌+◌, ◌-◌, ◌*◌, ◌≤◌, ◌<◌, length, get_or, set};
-ghost use Rattle.counting.specs.Counters.{index, Shaped, counters, plus_one, lower_marks, raise_marks, freed_marks, lower_at, raise_at, lower_from, raise_from, shift_of, decide_of, release_of};
+ghost use Rattle.std.specs.Prelude.{◌≡◌, ℕ, ◌-◌, ◌≤◌, ◌<◌, length, get_or};
+ghost use Rattle.counting.specs.Counters.{Shaped, first, list_length, plus_one, lower_marks, raise_marks, freed_marks, lower_at, raise_at, lower_from, raise_from, shift_of, decide_of, release_of};
 
 // The rules in which a literal is a condition, or an atom is a head (or one that a weighted body names): list i has the places from `starts` at i to `starts` at i + 1 of `rules`.
 #[derive(Clone, Copy)]
@@ -18,10 +18,11 @@ pub struct Marks {
     pub atom: usize,
 }
 
-fn less(k: u16) -> u16
-    ensures { result ≡ k - 1 }
-{
-    k.saturating_sub(1)
+// The numbers, by rule, and the marks.
+#[derive(Clone, Copy)]
+pub struct Counters {
+    pub key: [u16; 2048],
+    pub marks: Marks,
 }
 
 fn raised(k: u16) -> u16
@@ -36,198 +37,164 @@ pub fn bump(b: usize) -> usize
     if b < 65535 { b + 1 } else { b }
 }
 
-pub fn fall(b: usize) -> usize
-    ensures { result ≡ b - 1 }
-{
-    b.saturating_sub(1)
-}
-
 pub fn least(r: usize, low: usize) -> usize
     ensures { result ≡ Rattle.counting.specs.Counters.least r low }
 {
     r.min(low)
 }
 
-// The marks after rule r had k and has one less.
-fn lower_marks(m: Marks, r: usize, k: u16) -> Marks
-    ensures { result ≡ lower_marks r k m }
-{
-    if 2 < k {
-        return m;
+impl Marks {
+    // After rule r had k and has one less.
+    fn lower(self, r: usize, k: u16) -> Marks
+        ensures { result ≡ lower_marks r k self }
+    {
+        if 2 < k {
+            return self;
+        }
+        if k == 1 {
+            return Marks {
+                broken: bump(self.broken),
+                low: least(r, self.low),
+                zero: least(r, self.zero),
+                atom: self.atom,
+            };
+        }
+        Marks {
+            low: least(r, self.low),
+            ..self
+        }
     }
-    if k == 1 {
-        return Marks {
-            broken: bump(m.broken),
-            low: least(r, m.low),
-            zero: least(r, m.zero),
-            atom: m.atom,
-        };
+
+    // After a rule had k and has one more.
+    fn raise(self, k: u16) -> Marks
+        ensures { result ≡ raise_marks k self }
+    {
+        if k == 0 {
+            return Marks {
+                broken: self.broken.saturating_sub(1),
+                ..self
+            };
+        }
+        self
     }
-    Marks {
-        low: least(r, m.low),
-        ..m
-    }
-}
 
-// The marks after a rule had k and has one more.
-fn raise_marks(m: Marks, k: u16) -> Marks
-    ensures { result ≡ raise_marks k m }
-{
-    if k == 0 {
-        return Marks {
-            broken: fall(m.broken),
-            ..m
-        };
-    }
-    m
-}
-
-fn lower_at(key: &mut [u16; 2048], r: usize, m: Marks) -> Marks
-    requires { (r < 2048) × (length key.old ≡ 2048) }
-    ensures { counters key.new result ≡ lower_at r (counters key.old m) }
-{
-    let k = key[r];
-    key[r] = less(k);
-    lower_marks(m, r, k)
-}
-
-fn raise_at(key: &mut [u16; 2048], r: usize, m: Marks) -> Marks
-    requires { (r < 2048) × (length key.old ≡ 2048) }
-    ensures { counters key.new result ≡ raise_at r (counters key.old m) }
-{
-    let k = key[r];
-    key[r] = raised(k);
-    raise_marks(m, k)
-}
-
-// The rules at the places `from` to `end` have one condition less.
-fn lower_all(rules: &[u16], from: usize, end: usize, key: &mut [u16; 2048], start: Marks) -> Marks
-    requires { (end ≤ length rules.now) × ((e : ℕ) → get_or rules.now e 0 < 2048) × (length key.old ≡ 2048) }
-    ensures { counters key.new result ≡ lower_from rules.now from (end - from) (counters key.old start) }
-{
-    let mut m = start;
-    for e in from..end {
-        m = lower_at(key, usize::from(rules[e]), m);
-    }
-    m
-}
-
-// The rules at the places `from` to `end` have one condition more.
-pub fn raise_all(
-    rules: &[u16],
-    from: usize,
-    end: usize,
-    key: &mut [u16; 2048],
-    start: Marks,
-) -> Marks
-    requires { (end ≤ length rules.now) × ((e : ℕ) → get_or rules.now e 0 < 2048) × (length key.old ≡ 2048) }
-    ensures { counters key.new result ≡ raise_from rules.now from (end - from) (counters key.old start) }
-{
-    let mut m = start;
-    for e in from..end {
-        m = raise_at(key, usize::from(rules[e]), m);
-    }
-    m
-}
-
-// The literal of list `down` comes nearer to true, that of list `up` to false.
-fn shift<'a>(
-    starts: &'a [u16],
-    rules: &'a [u16],
-    down: usize,
-    up: usize,
-    key: &mut [u16; 2048],
-    m: Marks,
-) -> Marks
-    requires { Shaped (index starts.now rules.now) × (length key.old ≡ 2048) × (down < 2050) × (up < 2050) }
-    ensures { counters key.new result ≡ shift_of (index starts.now rules.now) down up (counters key.old m) }
-{
-    let a = usize::from(starts[down]);
-    let b = usize::from(starts[down + 1]);
-    let x = lower_all(rules, a, b, key, m);
-    let c = usize::from(starts[up]);
-    let d = usize::from(starts[up + 1]);
-    raise_all(rules, c, d, key, x)
-}
-
-// An undecided atom gets the value s.
-fn decide<'a>(
-    starts: &'a [u16],
-    rules: &'a [u16],
-    a: usize,
-    s: u8,
-    key: &mut [u16; 2048],
-    m: Marks,
-) -> Marks
-    requires { Shaped (index starts.now rules.now) × (length key.old ≡ 2048) × (a ≤ 1024) }
-    ensures { counters key.new result ≡ decide_of (index starts.now rules.now) a s (counters key.old m) }
-{
-    if s == 1 {
-        return shift(starts, rules, a * 2, a * 2 + 1, key, m);
-    }
-    shift(starts, rules, a * 2 + 1, a * 2, key, m)
-}
-
-// The marks after the atom a becomes undecided.
-fn freed(m: Marks, a: usize) -> Marks
-    ensures { result ≡ freed_marks a m }
-{
-    Marks {
-        atom: least(a, m.atom),
-        ..m
+    // After the atom a becomes undecided.
+    fn freed(self, a: usize) -> Marks
+        ensures { result ≡ freed_marks a self }
+    {
+        Marks {
+            atom: least(a, self.atom),
+            ..self
+        }
     }
 }
 
-// An atom that had the value y becomes undecided.
-fn release<'a>(
-    starts: &'a [u16],
-    rules: &'a [u16],
-    a: usize,
-    y: u8,
-    key: &mut [u16; 2048],
-    m: Marks,
-) -> Marks
-    requires { Shaped (index starts.now rules.now) × (length key.old ≡ 2048) × (a ≤ 1024) }
-    ensures { counters key.new result ≡ release_of (index starts.now rules.now) a y (counters key.old m) }
-{
-    if y == 0 {
-        return m;
+impl Counters {
+    fn lower_at(&mut self, r: usize)
+        requires { r < 2048 }
+        ensures { self.new ≡ lower_at r self.old }
+    {
+        let k = self.key[r];
+        self.key[r] = k.saturating_sub(1);
+        self.marks = self.marks.lower(r, k);
     }
-    let x = freed(m, a);
-    if y == 1 {
-        return shift(starts, rules, a * 2 + 1, a * 2, key, x);
+
+    fn raise_at(&mut self, r: usize)
+        requires { r < 2048 }
+        ensures { self.new ≡ raise_at r self.old }
+    {
+        let k = self.key[r];
+        self.key[r] = raised(k);
+        self.marks = self.marks.raise(k);
     }
-    shift(starts, rules, a * 2, a * 2 + 1, key, x)
-}
 
-// An atom that has the value at a, of those lent, becomes undecided.
-pub fn forget<'a>(
-    starts: &'a [u16],
-    rules: &'a [u16],
-    value: &'a [u8; 1025],
-    a: usize,
-    key: &mut [u16; 2048],
-    m: Marks,
-) -> Marks
-    requires { (Shaped (index starts.now rules.now) × (length key.old ≡ 2048)) × (a ≤ 1024) }
-    ensures { counters key.new result ≡ release_of (index starts.now rules.now) a (get_or value.now a 0) (counters key.old m) }
-{
-    release(starts, rules, a, value[a], key, m)
-}
+    // The rules at the places `from` to `end` have one condition less.
+    fn lower_all(&mut self, rules: &[u16], from: usize, end: usize)
+        requires { (end ≤ length rules.now) × ((e : ℕ) → get_or rules.now e 0 < 2048) }
+        ensures { self.new ≡ lower_from rules.now from (end - from) self.old }
+    {
+        for e in from..end {
+            self.lower_at(usize::from(rules[e]));
+        }
+    }
 
-// An atom that has the value at a, of those lent, gets the value s.
-pub fn assign<'a>(
-    starts: &'a [u16],
-    rules: &'a [u16],
-    value: &'a [u8; 1025],
-    a: usize,
-    s: u8,
-    key: &mut [u16; 2048],
-    m: Marks,
-) -> Marks
-    requires { (Shaped (index starts.now rules.now) × (length key.old ≡ 2048)) × (a ≤ 1024) }
-    ensures { counters key.new result ≡ decide_of (index starts.now rules.now) a s (release_of (index starts.now rules.now) a (get_or value.now a 0) (counters key.old m)) }
-{
-    let x = forget(starts, rules, value, a, key, m);
-    decide(starts, rules, a, s, key, x)
+    // The rules at the places `from` to `end` have one condition more.
+    fn raise_all(&mut self, rules: &[u16], from: usize, end: usize)
+        requires { (end ≤ length rules.now) × ((e : ℕ) → get_or rules.now e 0 < 2048) }
+        ensures { self.new ≡ raise_from rules.now from (end - from) self.old }
+    {
+        for e in from..end {
+            self.raise_at(usize::from(rules[e]));
+        }
+    }
+
+    // Those of list i.
+    pub fn raise_list(&mut self, o: &Index, i: usize)
+        requires { Shaped o.now × (i < 2050) }
+        ensures { self.new ≡ raise_from o.now.rules (first o.now i) (list_length o.now i) self.old }
+    {
+        self.raise_all(
+            &o.rules,
+            usize::from(o.starts[i]),
+            usize::from(o.starts[i + 1]),
+        );
+    }
+
+    // The literal of list `down` comes nearer to true, that of list `up` to false.
+    fn shift(&mut self, o: &Index, down: usize, up: usize)
+        requires { Shaped o.now × (down < 2050) × (up < 2050) }
+        ensures { self.new ≡ shift_of o.now down up self.old }
+    {
+        self.lower_all(
+            &o.rules,
+            usize::from(o.starts[down]),
+            usize::from(o.starts[down + 1]),
+        );
+        self.raise_list(o, up);
+    }
+
+    // An undecided atom gets the value s.
+    fn decide(&mut self, o: &Index, a: usize, s: u8)
+        requires { Shaped o.now × (a ≤ 1024) }
+        ensures { self.new ≡ decide_of o.now a s self.old }
+    {
+        if s == 1 {
+            self.shift(o, a * 2, a * 2 + 1);
+            return;
+        }
+        self.shift(o, a * 2 + 1, a * 2);
+    }
+
+    // An atom that had the value y becomes undecided.
+    fn release(&mut self, o: &Index, a: usize, y: u8)
+        requires { Shaped o.now × (a ≤ 1024) }
+        ensures { self.new ≡ release_of o.now a y self.old }
+    {
+        if y == 0 {
+            return;
+        }
+        self.marks = self.marks.freed(a);
+        if y == 1 {
+            self.shift(o, a * 2 + 1, a * 2);
+            return;
+        }
+        self.shift(o, a * 2, a * 2 + 1);
+    }
+
+    // An atom that has the value at a, of those lent, becomes undecided.
+    pub fn forget(&mut self, o: &Index, value: &[u8; 1025], a: usize)
+        requires { Shaped o.now × (a ≤ 1024) }
+        ensures { self.new ≡ release_of o.now a (get_or value.now a 0) self.old }
+    {
+        self.release(o, a, value[a]);
+    }
+
+    // An atom that has the value at a, of those lent, gets the value s.
+    pub fn assign(&mut self, o: &Index, value: &[u8; 1025], a: usize, s: u8)
+        requires { Shaped o.now × (a ≤ 1024) }
+        ensures { self.new ≡ decide_of o.now a s (release_of o.now a (get_or value.now a 0) self.old) }
+    {
+        self.forget(o, value, a);
+        self.decide(o, a, s);
+    }
 }

@@ -6,10 +6,10 @@ ghost use Rattle.asp.specs.Growth.{pairs_of};
 ghost use Rattle.search.specs.Scan.{head_rest, weighted_rest};
 ghost use Rattle.search.specs.Weigh.{met_at, body_rest, both_rest};
 ghost use Rattle.counting.specs.Moves.{RowWeighs, RowReadable, ListReadable, Fit};
-ghost use Rattle.counting.specs.Counters.{index, counters, least, rest_number, weigh_number, bodies, broken_after, put_marks, put_at, renew_at, open_at, weigh_from, weigh_of};
+ghost use Rattle.counting.specs.Counters.{least, rest_number, weigh_number, bodies, broken_after, put_marks, put_at, renew_at, open_at, weigh_from, weigh_of};
 
 use crate::counters;
-use crate::counters::Marks;
+use crate::counters::{Counters, Index, Marks};
 use asp::rules::{HeadKind, Pairs, Row};
 use bodies::weigh;
 use search::scan::Rest;
@@ -157,16 +157,12 @@ pub fn number(pool: &[i32], row: Row, value: &[u8; 1025]) -> u16
 fn broken_after(old: u16, new: u16, b: usize) -> usize
     ensures { result ≡ broken_after old new b }
 {
-    if new == 0 {
-        if old == 0 {
-            return b;
-        }
-        return counters::bump(b);
+    match (old, new) {
+        (0, 0) => b,
+        (_, 0) => counters::bump(b),
+        (0, _) => b.saturating_sub(1),
+        _ => b,
     }
-    if old == 0 {
-        return counters::fall(b);
-    }
-    b
 }
 
 fn low_after(r: usize, new: u16, low: usize) -> usize
@@ -200,73 +196,66 @@ fn put_marks(m: Marks, r: usize, old: u16, new: u16) -> Marks
 }
 
 // Rule r has the number k.
-fn put_at(key: &mut [u16; 2048], r: usize, k: u16, m: Marks) -> Marks
-    requires { (r < 2048) × (length key.old ≡ 2048) }
-    ensures { counters key.new result ≡ put_at r k (counters key.old m) }
+fn put_at(t: &mut Counters, r: usize, k: u16)
+    requires { r < 2048 }
+    ensures { t.new ≡ put_at r k t.old }
 {
-    let old = key[r];
-    key[r] = k;
-    put_marks(m, r, old, k)
+    let old = t.key[r];
+    t.key[r] = k;
+    t.marks = put_marks(t.marks, r, old, k);
 }
 
 // Rule r has the number k, if it is another.
-fn renew_at(key: &mut [u16; 2048], r: usize, k: u16, m: Marks) -> Marks
-    requires { (r < 2048) × (length key.old ≡ 2048) }
-    ensures { counters key.new result ≡ renew_at r k (counters key.old m) }
+fn renew_at(t: &mut Counters, r: usize, k: u16)
+    requires { r < 2048 }
+    ensures { t.new ≡ renew_at r k t.old }
 {
-    if key[r] == k {
-        return m;
+    if t.key[r] == k {
+        return;
     }
-    put_at(key, r, k, m)
+    put_at(t, r, k);
 }
 
 // The rules at the places `from` to `end` get their numbers.
-fn weigh_all<'a>(
-    pool: &'a [i32],
-    rows: &'a [Row],
-    rules: &'a [u16],
+fn weigh_all(
+    pool: &[i32],
+    rows: &[Row],
+    rules: &[u16],
     from: usize,
     end: usize,
-    value: &'a [u8; 1025],
-    key: &mut [u16; 2048],
-    start: Marks,
-) -> Marks
-    requires { ListReadable (bodies pool.now rows.now) rules.now from end × (length key.old ≡ 2048) }
-    ensures { counters key.new result ≡ weigh_from (bodies pool.now rows.now) value.now rules.now from (end - from) (counters key.old start) }
+    value: &[u8; 1025],
+    t: &mut Counters,
+)
+    requires { ListReadable (bodies pool.now rows.now) rules.now from end }
+    ensures { t.new ≡ weigh_from (bodies pool.now rows.now) value.now rules.now from (end - from) t.old }
 {
-    let mut m = start;
     for e in from..end {
         let r = usize::from(rules[e]);
-        m = renew_at(key, r, number(pool, rows[r], value), m);
+        renew_at(t, r, number(pool, rows[r], value));
     }
-    m
 }
 
 // Whether some rule with a weighted body names the atom a.
-pub fn is_named(starts: &[u16], a: usize) -> bool
-    requires { (a ≤ 1024) × (length starts.now ≡ 3076) }
-    ensures { result ≡ ltb (get_or starts.now (2050 + a) 0) (get_or starts.now (2050 + a + 1) 0) }
+pub fn is_named(o: &Index, a: usize) -> bool
+    requires { a ≤ 1024 }
+    ensures { result ≡ ltb (get_or o.now.starts (2050 + a) 0) (get_or o.now.starts (2050 + a + 1) 0) }
 {
-    let from = usize::from(starts[2050 + a]);
-    let end = usize::from(starts[2050 + a + 1]);
-    from < end
+    o.starts[2050 + a] < o.starts[2050 + a + 1]
 }
 
 // The value of the atom a has changed: the rules that name it get their numbers.
-pub fn reweigh<'a>(
-    pool: &'a [i32],
-    rows: &'a [Row],
-    starts: &'a [u16],
-    rules: &'a [u16],
+pub fn reweigh(
+    pool: &[i32],
+    rows: &[Row],
+    o: &Index,
     a: usize,
-    value: &'a [u8; 1025],
-    key: &mut [u16; 2048],
-    m: Marks,
-) -> Marks
-    requires { Fit (bodies pool.now rows.now) (index starts.now rules.now) value.now key.old × (a ≤ 1024) }
-    ensures { counters key.new result ≡ weigh_of (bodies pool.now rows.now) (index starts.now rules.now) a value.now (counters key.old m) }
+    value: &[u8; 1025],
+    t: &mut Counters,
+)
+    requires { Fit (bodies pool.now rows.now) o.now value.now t.old.key × (a ≤ 1024) }
+    ensures { t.new ≡ weigh_of (bodies pool.now rows.now) o.now a value.now t.old }
 {
-    let from = usize::from(starts[2050 + a]);
-    let end = usize::from(starts[2050 + a + 1]);
-    weigh_all(pool, rows, rules, from, end, value, key, m)
+    let from = usize::from(o.starts[2050 + a]);
+    let end = usize::from(o.starts[2050 + a + 1]);
+    weigh_all(pool, rows, &o.rules, from, end, value, t);
 }

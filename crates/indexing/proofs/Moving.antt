@@ -33,7 +33,8 @@ use Rattle.counting.specs.Counts.{Tells}
 use Rattle.counting.proofs.Telling.{told}
 use Rattle.counting.specs.declared.counters.Marks.{Marks}
 use Rattle.counting.specs.declared.counters.Index.{Index}
-use Rattle.counting.specs.Counters.{index, Counters, counters, Bodies, bodies}
+use Rattle.counting.specs.declared.counters.Counters.{Counters}
+use Rattle.counting.specs.Counters.{index, counters, Bodies, bodies}
 use Rattle.counting.specs.Moves.{CountedTrail, counted_trail, Fit, back_all}
 use Rattle.counting.specs.Counts.{Tracks, Indexed}
 use Rattle.stepping.proofs.StepLaws.{back_trail, counted_back, indexed_weighable}
@@ -50,16 +51,14 @@ module _ {g : Rules} {o h : Index} {v : List ℕ} {t : Counters} (x : Equipped g
   pub equipped_after : {v₁ : List ℕ} {t₁ : Counters} → Tracks g o v₁ t₁ → Equipped g o h v₁ t₁
   equipped_after k = record { readied = x.readied; conditions = x.conditions; heads = x.heads; counted = k }
 
-module _ {pool : List ℤ} {rows : List Row} {count : ℕ} {starts lists : List ℕ} {h : Index} {v key : List ℕ} {m : Marks} (x : Equipped (rules pool rows count) (index starts lists) h v (counters key m)) where
-  pub equipped_fit : {ls : List ℤ} {ms : List ℕ} {len : ℕ} → Good (places ls ms v len) → Fit (bodies pool rows) (index starts lists) v key
-  equipped_fit f = record { weighable = indexed_weighable (equipped_indexed x) x.readied.readable; shaped = x.conditions.shaped; value_len = f.value_len; key_len = x.counted.marked.long }
+pub equipped_fit : {pool : List ℤ} {rows : List Row} {count : ℕ} {o h : Index} {t : Places} {y : Counters} → Equipped (rules pool rows count) o h t.value y → Good t → Fit (bodies pool rows) o t.value y.key
+equipped_fit x f = record { weighable = indexed_weighable (equipped_indexed x) x.readied.readable; shaped = x.conditions.shaped; value_len = f.value_len; key_len = x.counted.marked.long }
 
 pub back_is : (bs : Bodies) (o : Index) (t : Places) (y : Counters) {t₁ : Places} {y₁ : Counters} → counted_trail t₁ y₁ ≡ back_all bs o (counted_trail t y) → t₁ ≡ back_of t
 back_is bs o t y z = ap (λ (h : CountedTrail). h.trail) z ∙ back_trail bs o t.len (counted_trail t y)
 
-module _ {g : Rules} {o h : Index} {ls : List ℤ} {ms v : List ℕ} {len : ℕ} {y : Counters} (x : Equipped g o h v y) (f : Good (places ls ms v len)) where
-  pub back_equipped : {ls₁ : List ℤ} {ms₁ v₁ : List ℕ} {k₁ : ℕ} {y₁ : Counters} → counted_trail (places ls₁ ms₁ v₁ k₁) y₁ ≡ back_all (bodies g.pool g.rows) o (counted_trail (places ls ms v len) y) → Equipped g o h v₁ y₁
-  back_equipped z = equipped_after x (counted_back (places ls ms v len) y (equipped_indexed x) f x.counted z)
+pub back_equipped : {g : Rules} {o h : Index} {t : Places} {y : Counters} → Equipped g o h t.value y → Good t → {t₁ : Places} {y₁ : Counters} → counted_trail t₁ y₁ ≡ back_all (bodies g.pool g.rows) o (counted_trail t y) → Equipped g o h t₁.value y₁
+back_equipped x f z = equipped_after x (counted_back (equipped_indexed x) f x.counted z)
 
 module _ {g : Rules} {o h : Index} (x : Indexes g o h) where
   pub lists_indexed : Indexed g o

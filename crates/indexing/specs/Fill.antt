@@ -4,7 +4,8 @@ use Rattle.asp.specs.declared.rules.Row.{Row}
 use Rattle.asp.specs.Sets.{pick}
 use Rattle.asp.specs.Tables.{is_choice, is_weighted, row_at}
 use Rattle.counting.specs.declared.counters.Index.{Index}
-use Rattle.counting.specs.Counters.{Counters, first, list_length, raise_from, weigh_number}
+use Rattle.counting.specs.declared.counters.Counters.{Counters}
+use Rattle.counting.specs.Counters.{first, list_length, raise_from, weigh_number}
 use Rattle.counting.specs.Counts.{broken_many}
 
 unfoldable pub raise_list : Index → ℕ → Counters → Counters

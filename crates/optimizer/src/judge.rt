@@ -10,10 +10,11 @@ ghost use Rattle.advancing.specs.Ready.{ReadyQuery, softs};
 ghost use Rattle.optimizer.specs.Lent.{source_lent, query_lent, LeafFor};
 
 use crate::ground::Ground;
-use crate::turn::{Numbers, Query};
+use crate::turn::Query;
 use advancing::state::Judgement;
 use asp::atoms::AtomSet;
 use asp::cost::Objective;
+use counting::counters::Counters;
 use indexing::leaf;
 
 // Whether a set costs on level l what that is settled at.
@@ -48,25 +49,20 @@ fn soft_or_wanted(j: Option<usize>) -> Judgement
 }
 
 // Stable, with the settled costs.
-fn in_class(g: &Ground<'_>, q: &Query<'_>, value: &[u8; 1025], numbers: &Numbers) -> bool
+fn in_class(g: &Ground<'_>, q: &Query<'_>, value: &[u8; 1025], counters: &Counters) -> bool
     requires ready_query { ReadyQuery (source_lent g.now) (query_lent q.now) }
-    requires leaf { LeafFor g.now value.now numbers.now }
+    requires leaf { LeafFor g.now value.now counters.now }
     ensures { result ≡ in_class (source_lent g.now) q.now.level q.now.lowers.now (set_of value.now) }
 {
-    let conditions = &g.prepared.conditions;
-    let heads = &g.prepared.heads;
     if leaf::is_stable(
         g.pool,
         g.rows,
         g.rules,
         g.atoms,
-        &conditions.starts,
-        &conditions.rules,
-        &heads.starts,
-        &heads.rules,
+        &g.prepared.conditions,
+        &g.prepared.heads,
         value,
-        &numbers.key,
-        numbers.marks,
+        counters,
     ) {
         return is_settled(&g.objective, q.level, AtomSet { bytes: value }, q.lowers);
     }
@@ -79,14 +75,14 @@ pub fn judge_full(
     q: &Query<'_>,
     blamed: &[u16],
     value: &[u8; 1025],
-    numbers: &Numbers,
+    counters: &Counters,
 ) -> Judgement
     requires ready_query { ReadyQuery (source_lent g.now) (query_lent q.now) }
     requires inside { All (λ m. m < softs (query_lent q.now)) blamed.now }
-    requires leaf { LeafFor g.now value.now numbers.now }
+    requires leaf { LeafFor g.now value.now counters.now }
     ensures { result ≡ judge_full (source_lent g.now) (query_lent q.now) blamed.now value.now }
 {
-    if in_class(g, q, value, numbers) {
+    if in_class(g, q, value, counters) {
         return soft_or_wanted(
             q.cores
                 .judge_both(blamed, q.assumed, AtomSet { bytes: value }),

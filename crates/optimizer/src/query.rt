@@ -11,7 +11,7 @@ ghost use Rattle.optimizer.specs.Lent.{source_lent, query_lent};
 
 use crate::ground::Ground;
 use crate::turn;
-use crate::turn::{Numbers, Query, Steps};
+use crate::turn::{Query, Steps};
 use advancing::state::{Blame, Work};
 use indexing::fill;
 use judging::judge::Cores;
@@ -31,19 +31,14 @@ fn run_lent(
     requires sound_trail { SoundTrail g.now.atoms trail.old }
     ensures { turns (turned result.turn trail.new blame.new) result.made ≡ turns_of (source_lent g.now) (query_lent q.now) budget trail.old blame.old }
 {
-    let conditions = &g.prepared.conditions;
-    let mut key = [0; 2048];
-    let marks = fill::fill(
+    let mut counters = fill::fill(
         g.pool,
         g.rows,
         g.rules,
-        &conditions.starts,
-        &conditions.rules,
+        &g.prepared.conditions,
         &trail.value,
-        &mut key,
     );
-    let mut numbers = Numbers { key, marks };
-    turn::turns(g, q, blame, trail, &mut numbers, budget)
+    turn::turns(g, q, blame, trail, &mut counters, budget)
 }
 
 // Steps by the soft literals of the level in work.

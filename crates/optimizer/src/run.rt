@@ -16,7 +16,7 @@ use advancing::state;
 use advancing::state::{Blame, Phase, Search, Turn, Work};
 use asp::cost::Objective;
 use cores::level::LevelTables;
-use search::trail;
+use search::trail::Places;
 
 fn fresh_blame() -> Blame
     ensures { result ≡ fresh_blame }
@@ -39,7 +39,7 @@ fn end_query(objective: &Objective<'_>, s: &mut Search, turn: Turn)
 {
     let core = blame::blamed(&s.blame);
     s.phase = finish::finish(objective, s.phase, &mut s.work, core, &s.trail.value, turn);
-    s.trail = trail::fresh();
+    s.trail = Places::fresh();
     s.blame = fresh_blame();
 }
 
@@ -79,7 +79,7 @@ fn fresh_over(lowers: [i64; 8]) -> Search
     Search {
         phase: Phase::First,
         advances: 0,
-        trail: trail::fresh(),
+        trail: Places::fresh(),
         blame: fresh_blame(),
         work: Work {
             level: 0,

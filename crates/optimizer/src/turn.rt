@@ -12,7 +12,7 @@ use crate::blame::{blame_entry, blame_place, blamed};
 use crate::ground::Ground;
 use crate::judge::judge_full;
 use advancing::state::{Blame, Judgement, Turn};
-use counting::counters::Marks;
+use counting::counters::Counters;
 use indexing::machine;
 use judging::judge::Cores;
 use search::step::Tested;
@@ -30,81 +30,53 @@ pub struct Query<'a> {
     pub cores: Cores<'a>,
 }
 
-// A number for each rule, and where the searches in them start.
-#[derive(Clone, Copy)]
-pub struct Numbers {
-    pub key: [u16; 2048],
-    pub marks: Marks,
-}
-
 // The test of a trail and the move that it asks for.
 fn step(
     g: &Ground<'_>,
     q: &Query<'_>,
     blame: &Blame,
     trail: &mut Places,
-    numbers: &mut Numbers,
+    counters: &mut Counters,
 ) -> Tested
     requires ready_query { ReadyQuery (source_lent g.now) (query_lent q.now) }
     requires good_blame { GoodBlame (query_lent q.now) blame.now }
     requires sound_trail { SoundTrail g.now.atoms trail.old }
-    requires equipped { EquippedFor g.now trail.old.value numbers.old }
+    requires equipped { EquippedFor g.now trail.old.value counters.old }
     ensures stepped { stepped result trail.new ≡ step_of (rule_tables (source_lent g.now)) g.now.atoms (assumed_by (source_lent g.now) (query_lent q.now) blame.now) trail.old }
-    ensures equipped { EquippedFor g.now trail.new.value numbers.new }
+    ensures equipped { EquippedFor g.now trail.new.value counters.new }
 {
-    let conditions = &g.prepared.conditions;
-    let heads = &g.prepared.heads;
-    let after = machine::step(
+    machine::step(
         g.pool,
         g.rows,
         g.rules,
-        &conditions.starts,
-        &conditions.rules,
-        &heads.starts,
-        &heads.rules,
+        &g.prepared.conditions,
+        &g.prepared.heads,
         g.atoms,
         &g.prepared.tried,
         q.wished,
         &blame.flags,
         q.wished.len(),
-        &mut trail.lits,
-        &mut trail.marks,
-        &mut trail.value,
-        &mut numbers.key,
-        trail.len,
-        numbers.marks,
-    );
-    trail.len = after.len;
-    numbers.marks = after.marks;
-    after.tested
+        trail,
+        counters,
+    )
 }
 
 // After a conflict: back to the last decision, which is flipped. Without one the query has ended.
-fn back(g: &Ground<'_>, trail: &mut Places, numbers: &mut Numbers)
+fn back(g: &Ground<'_>, trail: &mut Places, counters: &mut Counters)
     requires sound_trail { SoundTrail g.now.atoms trail.old }
-    requires equipped { EquippedFor g.now trail.old.value numbers.old }
+    requires equipped { EquippedFor g.now trail.old.value counters.old }
     ensures back { trail.new ≡ back_of trail.old }
-    ensures equipped { EquippedFor g.now trail.new.value numbers.new }
+    ensures equipped { EquippedFor g.now trail.new.value counters.new }
 {
-    let conditions = &g.prepared.conditions;
-    let heads = &g.prepared.heads;
-    let after = machine::back(
+    machine::back(
         g.pool,
         g.rows,
         g.rules,
-        &conditions.starts,
-        &conditions.rules,
-        &heads.starts,
-        &heads.rules,
-        &mut trail.lits,
-        &mut trail.marks,
-        &mut trail.value,
-        &mut numbers.key,
-        trail.len,
-        numbers.marks,
+        &g.prepared.conditions,
+        &g.prepared.heads,
+        trail,
+        counters,
     );
-    trail.len = after.len;
-    numbers.marks = after.marks;
 }
 
 fn backed(trail: &Places) -> Turn
@@ -122,24 +94,24 @@ fn judged(
     q: &Query<'_>,
     blame: &mut Blame,
     trail: &mut Places,
-    numbers: &mut Numbers,
+    counters: &mut Counters,
 ) -> Turn
     requires ready_query { ReadyQuery (source_lent g.now) (query_lent q.now) }
     requires good_blame { GoodBlame (query_lent q.now) blame.old }
     requires sound_trail { SoundTrail g.now.atoms trail.old }
-    requires leaf { LeafFor g.now trail.old.value numbers.old }
+    requires leaf { LeafFor g.now trail.old.value counters.old }
     ensures turned { turned result trail.new blame.new ≡ judged_turn (query_lent q.now) trail.old blame.old (judge_full (source_lent g.now) (query_lent q.now) (blamed_of blame.old) trail.old.value) }
-    ensures equipped { EquippedFor g.now trail.new.value numbers.new }
+    ensures equipped { EquippedFor g.now trail.new.value counters.new }
 {
-    match judge_full(g, q, blamed(blame), &trail.value, numbers) {
+    match judge_full(g, q, blamed(blame), &trail.value, counters) {
         Judgement::Wanted => Turn::Model,
         Judgement::Dead => {
-            back(g, trail, numbers);
+            back(g, trail, counters);
             backed(trail)
         }
         Judgement::Violated(p) => {
             blame_place(q.spots, p, blame);
-            back(g, trail, numbers);
+            back(g, trail, counters);
             backed(trail)
         }
     }
@@ -151,23 +123,23 @@ pub fn turn(
     q: &Query<'_>,
     blame: &mut Blame,
     trail: &mut Places,
-    numbers: &mut Numbers,
+    counters: &mut Counters,
 ) -> Turn
     requires ready_query { ReadyQuery (source_lent g.now) (query_lent q.now) }
     requires good_blame { GoodBlame (query_lent q.now) blame.old }
     requires sound_trail { SoundTrail g.now.atoms trail.old }
-    requires equipped { EquippedFor g.now trail.old.value numbers.old }
+    requires equipped { EquippedFor g.now trail.old.value counters.old }
     ensures turned { turned result trail.new blame.new ≡ turn_of (source_lent g.now) (query_lent q.now) trail.old blame.old }
-    ensures equipped { EquippedFor g.now trail.new.value numbers.new }
+    ensures equipped { EquippedFor g.now trail.new.value counters.new }
 {
-    match step(g, q, blame, trail, numbers) {
+    match step(g, q, blame, trail, counters) {
         Tested::RuleBroken(_) => backed(trail),
         Tested::SoftViolated(i) => {
             blame_entry(q.spots, i, blame);
             backed(trail)
         }
         Tested::Open(_) => Turn::Going,
-        Tested::Full => judged(g, q, blame, trail, numbers),
+        Tested::Full => judged(g, q, blame, trail, counters),
     }
 }
 
@@ -184,17 +156,17 @@ pub fn turns(
     q: &Query<'_>,
     blame: &mut Blame,
     trail: &mut Places,
-    numbers: &mut Numbers,
+    counters: &mut Counters,
     budget: u32,
 ) -> Steps
     requires ready_query { ReadyQuery (source_lent g.now) (query_lent q.now) }
     requires good_blame { GoodBlame (query_lent q.now) blame.old }
     requires sound_trail { SoundTrail g.now.atoms trail.old }
-    requires equipped { EquippedFor g.now trail.old.value numbers.old }
+    requires equipped { EquippedFor g.now trail.old.value counters.old }
     ensures { turns (turned result.turn trail.new blame.new) result.made ≡ turns_of (source_lent g.now) (query_lent q.now) budget trail.old blame.old }
 {
     for made in 0..budget {
-        let turn = turn(g, q, blame, trail, numbers);
+        let turn = turn(g, q, blame, trail, counters);
         if !is_going(turn) {
             return Steps {
                 turn,

@@ -6,7 +6,7 @@ use Rattle.search.specs.declared.trail.Places.{Places}
 use Rattle.search.specs.Trail.{Trail, NotOn, FormedTrail}
 use Rattle.search.specs.Scan.{Rules}
 use Rattle.counting.specs.declared.counters.Index.{Index}
-use Rattle.counting.specs.Counters.{Counters}
+use Rattle.counting.specs.declared.counters.Counters.{Counters}
 use Rattle.search_traces.specs.Stored.{Running}
 
 not_on_prop : (a : ℕ) (t : Trail) → IsProp (NotOn a t)

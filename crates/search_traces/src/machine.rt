@@ -1,17 +1,16 @@
 // The machine of a query. The program and the lists of its rules are lent; the trail, the rules' numbers and the blame are its own.
 ghost use Rattle.std.specs.Prelude.{true, false, length};
 ghost use Rattle.search.specs.Scan.{rules};
-ghost use Rattle.counting.specs.Counters.{counters};
 ghost use Rattle.indexing.specs.Sorting.{Sorted};
 ghost use Rattle.search_traces.specs.Stored.{Running};
 ghost use Rattle.search_traces.specs.Alone.{running_prop};
 
 use crate::program::Program;
-use counting::counters::{Index, Marks};
+use counting::counters::{Counters, Index};
 use indexing::{fill, machine};
 use search::soft;
 use search::step::Tested;
-use search::trail::{self, Places};
+use search::trail::Places;
 use std::fmt;
 
 #[derive(Drop)]
@@ -21,11 +20,10 @@ pub struct Machine<'a> {
     pub conditions: &'a Index,
     pub heads: &'a Index,
     pub trail: Places,
-    pub key: [u16; 2048],
-    pub marks: Marks,
+    pub counters: Counters,
     // Kept: 1 where blamed, as `search` reads it
     pub blamed: [u8; 8],
-    pub ghost running: { Running program.table.atoms (rules program.table.pool.now program.table.rows.now (length program.table.rows.now)) conditions.now heads.now trail (counters key marks) } by { running_prop _ _ _ _ _ _ },
+    pub ghost running: { Running program.table.atoms (rules program.table.pool.now program.table.rows.now (length program.table.rows.now)) conditions.now heads.now trail counters } by { running_prop _ _ _ _ _ _ },
 }
 
 impl<'a> Machine<'a> {
@@ -34,24 +32,20 @@ impl<'a> Machine<'a> {
         requires conditions { Sorted false (rules program.table.pool.now program.table.rows.now (length program.table.rows.now)) conditions.now }
         requires heads { Sorted true (rules program.table.pool.now program.table.rows.now (length program.table.rows.now)) heads.now }
     {
-        let trail = trail::fresh();
-        let mut key = [0; 2048];
-        let marks = fill::fill(
+        let trail = Places::fresh();
+        let counters = fill::fill(
             program.table.pool,
             program.table.rows,
             program.table.rows.len(),
-            &conditions.starts,
-            &conditions.rules,
+            conditions,
             &trail.value,
-            &mut key,
         );
         Machine {
             program,
             conditions,
             heads,
             trail,
-            key,
-            marks,
+            counters,
             blamed: [0; 8],
         }
     }
@@ -59,50 +53,33 @@ impl<'a> Machine<'a> {
     // One step. No atom is to be tried in first.
     pub fn step(&mut self) -> Tested {
         let tried = [0; 1025];
-        let after = machine::step(
+        machine::step(
             self.program.table.pool,
             self.program.table.rows,
             self.program.table.rows.len(),
-            &self.conditions.starts,
-            &self.conditions.rules,
-            &self.heads.starts,
-            &self.heads.rules,
+            self.conditions,
+            self.heads,
             self.program.table.atoms,
             &tried,
             self.program.wished,
             &self.blamed,
             self.program.wished.len(),
-            &mut self.trail.lits,
-            &mut self.trail.marks,
-            &mut self.trail.value,
-            &mut self.key,
-            self.trail.len,
-            self.marks,
-        );
-        self.trail.len = after.len;
-        self.marks = after.marks;
-        after.tested
+            &mut self.trail,
+            &mut self.counters,
+        )
     }
 
     // Back to the last decision, which is flipped.
     pub fn back(&mut self) {
-        let moved = machine::back(
+        machine::back(
             self.program.table.pool,
             self.program.table.rows,
             self.program.table.rows.len(),
-            &self.conditions.starts,
-            &self.conditions.rules,
-            &self.heads.starts,
-            &self.heads.rules,
-            &mut self.trail.lits,
-            &mut self.trail.marks,
-            &mut self.trail.value,
-            &mut self.key,
-            self.trail.len,
-            self.marks,
+            self.conditions,
+            self.heads,
+            &mut self.trail,
+            &mut self.counters,
         );
-        self.trail.len = moved.len;
-        self.marks = moved.marks;
     }
 
     // The wish that the trail violates.

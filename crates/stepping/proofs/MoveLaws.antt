@@ -18,7 +18,8 @@ use Rattle.search.specs.Places.{places, side_of, put_of, drop_of, Good}
 use Rattle.search.proofs.PlacesLaws.{good_drop}
 use Rattle.counting.specs.declared.counters.Marks.{Marks}
 use Rattle.counting.specs.declared.counters.Index.{Index}
-use Rattle.counting.specs.Counters.{index, Counters, counters, decide_of, release_of, Bodies, weigh_of}
+use Rattle.counting.specs.declared.counters.Counters.{Counters}
+use Rattle.counting.specs.Counters.{index, counters, decide_of, release_of, Bodies, weigh_of}
 use Rattle.counting.specs.Moves.{CountedTrail, counted_trail, Fit, put_all, drop_all, back_all_from, back_all}
 use Rattle.counting.proofs.CounterLaws.{release_len, decide_len, weigh_len, weigh_none}
 
@@ -40,9 +41,9 @@ module _ (bs : Bodies) (o : Index) (l : ℤ) (mark : ℕ) (t : Places) (y : Coun
   put_done h ea es ey et ez = rw (ez, et, ey, ea, es, back_to l h)
 
 -- the same, where no rule with a weighted body names the atom
-module _ (bs : Bodies) (s rs : List ℕ) (a : ℕ) {b : Bool} (eb : b ≡ ltb (get_or s (2050 + a) 0) (get_or s (2050 + a + 1) 0)) (q : b ≡ false) where
-  pub unnamed : (v : List ℕ) (y : Counters) → y ≡ weigh_of bs (index s rs) a v y
-  unnamed v y = sym (weigh_none bs (index s rs) a v y (sym eb ∙ q))
+module _ (bs : Bodies) (o : Index) (a : ℕ) {b : Bool} (eb : b ≡ ltb (get_or o.starts (2050 + a) 0) (get_or o.starts (2050 + a + 1) 0)) (q : b ≡ false) where
+  pub unnamed : (v : List ℕ) (y : Counters) → y ≡ weigh_of bs o a v y
+  unnamed v y = sym (weigh_none bs o a v y (sym eb ∙ q))
 
 pub push_done : (bs : Bodies) (o : Index) (l : ℤ) (h : CountedTrail) → nat_abs l ≤ 1024 → {h₁ : CountedTrail} → h₁ ≡ put_all bs o (to_z w32 (of_z w32 l)) 1 h → h₁ ≡ put_all bs o l 1 h
 push_done bs o l h s e = rw (back_to l s) at e
@@ -57,23 +58,23 @@ module _ (bs : Bodies) (o : Index) (k : ℕ) (t : Places) (y : Counters) where
 -- ---- sizes
 
 -- between the lists and the weighted bodies
-module _ {bs : Bodies} {o : Index} {v key key₁ : List ℕ} (f : Fit bs o v key) (m : Marks) {m₁ : Marks} where
-  pub put_between : (a s y : ℕ) → counters key₁ m₁ ≡ decide_of o a s (release_of o a y (counters key m)) → (l : ℤ) (mark : ℕ) (ls : List ℤ) (ms : List ℕ) (k : ℕ) {ls₁ : List ℤ} {ms₁ v₁ : List ℕ} {k₁ : ℕ} → places ls₁ ms₁ v₁ k₁ ≡ put_of l mark (places ls ms v k) → Fit bs o v₁ key₁
+module _ {bs : Bodies} {o : Index} {v : List ℕ} {y₁ : Counters} (y : Counters) (f : Fit bs o v y.key) where
+  pub put_between : (a s x : ℕ) → y₁ ≡ decide_of o a s (release_of o a x y) → (l : ℤ) (mark : ℕ) (t : Places) → t.value ≡ v → {t₁ : Places} → t₁ ≡ put_of l mark t → Fit bs o t₁.value y₁.key
   unfolding put_of
-  put_between a s y e l mark ls ms k q = record {
+  put_between a s x e l mark t p q = record {
     weighable = f.weighable;
     shaped = f.shaped;
-    value_len = ap (λ (t : Places). length t.value) q ∙ simp length-set f.value_len;
-    key_len = ap (λ (t : Counters). length t.key) e ∙ decide_len o a s (release_of o a y (counters key m)) ∙ release_len o a y (counters key m) ∙ f.key_len;
+    value_len = ap (λ (u : Places). length u.value) q ∙ simp length-set (ap length p ∙ f.value_len);
+    key_len = ap (λ (u : Counters). length u.key) e ∙ decide_len o a s (release_of o a x y) ∙ release_len o a x y ∙ f.key_len;
   }
 
-  pub drop_between : (a y : ℕ) → counters key₁ m₁ ≡ release_of o a y (counters key m) → (j : ℕ) (ls : List ℤ) (ms : List ℕ) (k : ℕ) {ls₁ : List ℤ} {ms₁ v₁ : List ℕ} {k₁ : ℕ} → places ls₁ ms₁ v₁ k₁ ≡ drop_of j (places ls ms v k) → Fit bs o v₁ key₁
+  pub drop_between : (a x : ℕ) → y₁ ≡ release_of o a x y → (j : ℕ) (t : Places) → t.value ≡ v → {t₁ : Places} → t₁ ≡ drop_of j t → Fit bs o t₁.value y₁.key
   unfolding drop_of
-  drop_between a y e j ls ms k q = record {
+  drop_between a x e j t p q = record {
     weighable = f.weighable;
     shaped = f.shaped;
-    value_len = ap (λ (t : Places). length t.value) q ∙ simp length-set f.value_len;
-    key_len = ap (λ (t : Counters). length t.key) e ∙ release_len o a y (counters key m) ∙ f.key_len;
+    value_len = ap (λ (u : Places). length u.value) q ∙ simp length-set (ap length p ∙ f.value_len);
+    key_len = ap (λ (u : Counters). length u.key) e ∙ release_len o a x y ∙ f.key_len;
   }
 
 put_fit : (bs : Bodies) (o : Index) (l : ℤ) (m : ℕ) (h : CountedTrail) → Fit bs o h.trail.value h.counters.key → Fit bs o (put_all bs o l m h).trail.value (put_all bs o l m h).counters.key
@@ -114,67 +115,63 @@ pub record Back (bs : Bodies) (o : Index) (h₀ h : CountedTrail) : Type 0 where
 pub back_start : (bs : Bodies) (o : Index) (h : CountedTrail) → Good h.trail → Fit bs o h.trail.value h.counters.key → Back bs o h h
 back_start bs o h g f = record { good = g; fit = f; rest = refl }
 
-module _ (bs : Bodies) (o : Index) (ls : List ℤ) (ms v : List ℕ) (y : Counters) (k x : ℕ) where
-  from_next : (j : ℕ) → k ≡ suc j → (get_or ms j 0 ≡ 1 → ⊥) → back_all_from bs o k (counted_trail (places ls ms v k) y) ≡ back_all_from bs o j (drop_all bs o j (counted_trail (places ls ms v x) y))
-  unfolding back_all_from drop_all drop_of
-  from_next j e q = rw (e, ne_eqb (get_or ms j 0) 1 q)
+module _ (bs : Bodies) (o : Index) (h : CountedTrail) (j : ℕ) where
+  from_next : (k : ℕ) → k ≡ suc j → (get_or h.trail.marks j 0 ≡ 1 → ⊥) → back_all_from bs o k h ≡ back_all_from bs o j (drop_all bs o j h)
+  unfolding back_all_from
+  from_next k e q = rw (e, ne_eqb (get_or h.trail.marks j 0) 1 q)
 
-  from_here : (j : ℕ) → k ≡ suc j → get_or ms j 0 ≡ 1 → back_all_from bs o k (counted_trail (places ls ms v k) y) ≡ put_all bs o (neg_ℤ (get_or ls j (pos 0))) 2 (drop_all bs o j (counted_trail (places ls ms v x) y))
-  unfolding back_all_from drop_all drop_of
-  from_here j e q = rw (e, eq-eqb (get_or ms j 0) 1 q)
+  from_here : (k : ℕ) → k ≡ suc j → get_or h.trail.marks j 0 ≡ 1 → back_all_from bs o k h ≡ put_all bs o (neg_ℤ (get_or h.trail.lits j (pos 0))) 2 (drop_all bs o j h)
+  unfolding back_all_from
+  from_here k e q = rw (e, eq-eqb (get_or h.trail.marks j 0) 1 q)
 
-drop_good : (bs : Bodies) (o : Index) (k : ℕ) (h : CountedTrail) → Good h.trail → k < 1024 → Good (drop_all bs o k h).trail
-unfolding drop_all
-drop_good bs o k h g l = good_drop k h.trail g l
+  drop_len : (drop_all bs o j h).trail.len ≡ j
+  unfolding drop_all drop_of
+  drop_len = refl
 
-drop_any : (bs : Bodies) (o : Index) (ls : List ℤ) (ms v : List ℕ) (y : Counters) (k x z : ℕ) → drop_all bs o k (counted_trail (places ls ms v x) y) ≡ drop_all bs o k (counted_trail (places ls ms v z) y)
-unfolding drop_all drop_of
-drop_any bs o ls ms v y k x z = refl
+  drop_good : Good h.trail → j < 1024 → Good (drop_all bs o j h).trail
+  unfolding drop_all
+  drop_good g l = good_drop j h.trail g l
 
-drop_len : (bs : Bodies) (o : Index) (k : ℕ) (h : CountedTrail) → (drop_all bs o k h).trail.len ≡ k
-unfolding drop_all drop_of
-drop_len bs o k h = refl
+module _ {bs : Bodies} {o : Index} {h₀ h : CountedTrail} (i : Back bs o h₀ h) (p : 0 < h.trail.len) where
+  abbrev j : ℕ
+  j = h.trail.len - 1
 
-module _ {bs : Bodies} {o : Index} {h₀ : CountedTrail} {ls : List ℤ} {ms v : List ℕ} {y : Counters} {k : ℕ} where
-  pub back_next : Back bs o h₀ (counted_trail (places ls ms v k) y) → 0 < k → (get_or ms (k - 1) 0 ≡ 1 → ⊥) → {h₁ : CountedTrail} → h₁ ≡ drop_all bs o (k - 1) (counted_trail (places ls ms v (k - 1)) y) → Back bs o h₀ h₁
-  back_next i p q e = rw (e, drop_any bs o ls ms v y (k - 1) (k - 1) k) (record {
-    good = drop_good bs o (k - 1) (counted_trail (places ls ms v k) y) i.good (omega (arith, i.good.short));
-    fit = drop_fit bs o (k - 1) (counted_trail (places ls ms v k) y) i.fit;
-    rest = ap (λ (z : ℕ). back_all_from bs o z (drop_all bs o (k - 1) (counted_trail (places ls ms v k) y))) (drop_len bs o (k - 1) (counted_trail (places ls ms v k) y)) ∙ (sym (from_next bs o ls ms v y k k (k - 1) (omega arith) q) ∙ i.rest);
+  pub back_next : (get_or h.trail.marks j 0 ≡ 1 → ⊥) → {h₁ : CountedTrail} → h₁ ≡ drop_all bs o j h → Back bs o h₀ h₁
+  back_next q e = rw e (record {
+    good = drop_good bs o h j i.good (omega (arith, i.good.short));
+    fit = drop_fit bs o j h i.fit;
+    rest = ap (λ (z : ℕ). back_all_from bs o z (drop_all bs o j h)) (drop_len bs o h j) ∙ (sym (from_next bs o h j h.trail.len (omega arith) q) ∙ i.rest);
   })
 
-  pub dropped_fit : Back bs o h₀ (counted_trail (places ls ms v k) y) → {ls₁ : List ℤ} {ms₁ v₁ key₁ : List ℕ} {j : ℕ} {m₁ : Marks} → counted_trail (places ls₁ ms₁ v₁ j) (counters key₁ m₁) ≡ drop_all bs o (k - 1) (counted_trail (places ls ms v (k - 1)) y) → Fit bs o v₁ key₁
-  dropped_fit i {v₁ = v₁} {key₁ = key₁} e =
-      let f = drop_fit bs o (k - 1) (counted_trail (places ls ms v (k - 1)) y) i.fit in
-      let p : v₁ ≡ (drop_all bs o (k - 1) (counted_trail (places ls ms v (k - 1)) y)).trail.value = ap (λ (h : CountedTrail). h.trail.value) e in
-      let q : key₁ ≡ (drop_all bs o (k - 1) (counted_trail (places ls ms v (k - 1)) y)).counters.key = ap (λ (h : CountedTrail). h.counters.key) e in
-      rw (p, q) f
+  pub dropped_fit : {h₁ : CountedTrail} → h₁ ≡ drop_all bs o j h → Fit bs o h₁.trail.value h₁.counters.key
+  dropped_fit e = rw e (drop_fit bs o j h i.fit)
 
-  pub place_in : Back bs o h₀ (counted_trail (places ls ms v k) y) → 0 < k → k - 1 < 1024
-  place_in i p = omega (arith, i.good.short)
+  pub dropped_shorter : {h₁ : CountedTrail} → h₁ ≡ drop_all bs o j h → h₁.trail.len < h.trail.len
+  dropped_shorter e = let q = ap (λ (x : CountedTrail). x.trail.len) e ∙ drop_len bs o h j in omega (arith, q)
 
-  pub literal_in : Back bs o h₀ (counted_trail (places ls ms v k) y) → (j : ℕ) → nat_abs (get_or ls j (pos 0)) ≤ 1024
-  literal_in i j = i.good.small j
+  pub dropped_len : {h₁ : CountedTrail} → h₁ ≡ drop_all bs o j h → h₁.trail.len < 1024
+  dropped_len e = let q = ap (λ (x : CountedTrail). x.trail.len) e ∙ drop_len bs o h j in omega (arith, q, i.good.short)
 
-  pub lits_long : Back bs o h₀ (counted_trail (places ls ms v k) y) → length ls ≡ 1024
-  lits_long i = i.good.lits_len
+  taken : {l : ℤ} → l ≡ get_or h.trail.lits j (pos 0) → to_z w32 (of_z w32 l) ≡ get_or h.trail.lits j (pos 0)
+  taken e = rw e (back_to (get_or h.trail.lits j (pos 0)) (i.good.small j))
 
-  taken : Back bs o h₀ (counted_trail (places ls ms v k) y) → (j : ℕ) {l : ℤ} → l ≡ get_or ls j (pos 0) → to_z w32 (of_z w32 l) ≡ get_or ls j (pos 0)
-  taken i j e = rw e (back_to (get_or ls j (pos 0)) (i.good.small j))
+  pub taken_small : {l : ℤ} → l ≡ get_or h.trail.lits j (pos 0) → nat_abs (to_z w32 (of_z w32 l)) ≤ 1024
+  taken_small e = rw (taken e) (i.good.small j)
 
-  pub taken_small : Back bs o h₀ (counted_trail (places ls ms v k) y) → (j : ℕ) {l : ℤ} → l ≡ get_or ls j (pos 0) → nat_abs (to_z w32 (of_z w32 l)) ≤ 1024
-  taken_small i j e = rw (taken i j e) (i.good.small j)
+  other : {l c : ℤ} → l ≡ get_or h.trail.lits j (pos 0) → c ≡ neg_ℤ (to_z w32 (of_z w32 l)) → to_z w32 (of_z w32 c) ≡ neg_ℤ (get_or h.trail.lits j (pos 0))
+  other e q = rw (q, taken e) (back_to (neg_ℤ (get_or h.trail.lits j (pos 0))) (rw abs_neg (i.good.small j)))
 
-  other : Back bs o h₀ (counted_trail (places ls ms v k) y) → (j : ℕ) {l c : ℤ} → l ≡ get_or ls j (pos 0) → c ≡ neg_ℤ (to_z w32 (of_z w32 l)) → to_z w32 (of_z w32 c) ≡ neg_ℤ (get_or ls j (pos 0))
-  other i j e q = rw (q, taken i j e) (back_to (neg_ℤ (get_or ls j (pos 0))) (rw abs_neg (i.good.small j)))
+  pub other_small : {l c : ℤ} → l ≡ get_or h.trail.lits j (pos 0) → c ≡ neg_ℤ (to_z w32 (of_z w32 l)) → nat_abs (to_z w32 (of_z w32 c)) ≤ 1024
+  other_small e q = rw (other e q, abs_neg) (i.good.small j)
 
-  pub other_small : Back bs o h₀ (counted_trail (places ls ms v k) y) → (j : ℕ) {l c : ℤ} → l ≡ get_or ls j (pos 0) → c ≡ neg_ℤ (to_z w32 (of_z w32 l)) → nat_abs (to_z w32 (of_z w32 c)) ≤ 1024
-  other_small i j e q = rw (other i j e q, abs_neg) (i.good.small j)
+  pub back_here : get_or h.trail.marks j 0 ≡ 1 → {h₁ : CountedTrail} → h₁ ≡ drop_all bs o j h
+      → {l c : ℤ} → l ≡ get_or h.trail.lits j (pos 0) → c ≡ neg_ℤ (to_z w32 (of_z w32 l)) → {h₂ : CountedTrail} → h₂ ≡ put_all bs o (to_z w32 (of_z w32 c)) 2 h₁ → h₂ ≡ back_all bs o h₀
+  back_here q e el ec f = f ∙ ap₂ (λ (z : ℤ) (x : CountedTrail). put_all bs o z 2 x) (other el ec) e ∙ sym (from_here bs o h j h.trail.len (omega arith) q) ∙ i.rest
 
-  pub back_here : Back bs o h₀ (counted_trail (places ls ms v k) y) → 0 < k → get_or ms (k - 1) 0 ≡ 1 → {h₁ : CountedTrail} → h₁ ≡ drop_all bs o (k - 1) (counted_trail (places ls ms v (k - 1)) y)
-      → {l c : ℤ} → l ≡ get_or ls (k - 1) (pos 0) → c ≡ neg_ℤ (to_z w32 (of_z w32 l)) → {h₂ : CountedTrail} → h₂ ≡ put_all bs o (to_z w32 (of_z w32 c)) 2 h₁ → h₂ ≡ back_all bs o h₀
-  back_here i p q e el ec f = f ∙ ap₂ (λ (z : ℤ) (h : CountedTrail). put_all bs o z 2 h) (other i (k - 1) el ec) e ∙ sym (from_here bs o ls ms v y k (k - 1) (k - 1) (omega arith) q) ∙ i.rest
-
-  pub back_none : Back bs o h₀ (counted_trail (places ls ms v k) y) → k ≤ 0 → counted_trail (places ls ms v 0) y ≡ back_all bs o h₀
-  unfolding back_all_from
-  back_none i p = let e : k ≡ 0 = omega arith in rw e at i.rest
+pub back_none : {bs : Bodies} {o : Index} {h₀ h : CountedTrail} → Back bs o h₀ h → h.trail.len ≤ 0 → h ≡ back_all bs o h₀
+unfolding back_all_from
+back_none {bs} {o} {h₀} {h} i p = go h.trail.len refl
+  where
+    go : (k : ℕ) → h.trail.len ≡ k → h ≡ back_all bs o h₀
+    go zero e = ap (λ (k : ℕ). back_all_from bs o k h) (sym e) ∙ i.rest
+    go (suc k) e = absurd (omega (arith, e, p))

@@ -27,7 +27,8 @@ use Rattle.search.proofs.Formed.{readable}
 use Rattle.search.proofs.StepLaws.{step_broken, step_full, step_violated, step_open, open_small}
 use Rattle.counting.specs.declared.counters.Marks.{Marks}
 use Rattle.counting.specs.declared.counters.Index.{Index}
-use Rattle.counting.specs.Counters.{index, Counters, counters, marks, Bodies, bodies, first, list_length}
+use Rattle.counting.specs.declared.counters.Counters.{Counters}
+use Rattle.counting.specs.Counters.{index, counters, marks, Bodies, bodies, first, list_length}
 use Rattle.counting.specs.Moves.{CountedTrail, counted_trail, Weighable, Fit, put_all, drop_all, back_all_from, back_all}
 use Rattle.counting.specs.Counts.{times_in, MarksRight, Tracks, Indexed, Told}
 use Rattle.counting.proofs.Sums.{sum_part}
@@ -67,21 +68,22 @@ indexed_weighable {g} {o} i f = record {
         let y = sum_part (λ x. ind (eqb (get_or o.rules x 0) (get_or o.rules e 0))) e (first o (2050 + a)) (list_length o (2050 + a)) p q in
         omega (arith, rw (eq-eqb (get_or o.rules e 0) (get_or o.rules e 0) refl) at y)
 
-module _ {pool : List ℤ} {rows : List Row} {starts lists : List ℕ} {count : ℕ} {v key : List ℕ} {m : Marks} where
-  pub counted_told : Indexed (rules pool rows count) (index starts lists) → Tracks (rules pool rows count) (index starts lists) v (counters key m) → Told (rules pool rows count) v key
-  counted_told i k = told (rules pool rows count) (index starts lists) i v (counters key m) k
+module _ {pool : List ℤ} {rows : List Row} {count : ℕ} {o : Index} {v : List ℕ} {t : Counters} where
+  pub counted_told : Indexed (rules pool rows count) o → Tracks (rules pool rows count) o v t → Told (rules pool rows count) v t.key
+  counted_told i k = told (rules pool rows count) o i v t k
 
-  pub counted_marked : Tracks (rules pool rows count) (index starts lists) v (counters key m) → MarksRight count (counters key m)
+  pub counted_marked : Tracks (rules pool rows count) o v t → MarksRight count t
   counted_marked k = k.marked
 
-  pub relow : Tracks (rules pool rows count) (index starts lists) v (counters key m) → {b l z c : ℕ} → MarksRight count (counters key (marks b l z c)) → {n a : ℕ} → LowestIs v n a → Tracks (rules pool rows count) (index starts lists) v (counters key (marks b l z a))
+  pub relow : Tracks (rules pool rows count) o v t → {b l z c : ℕ} → MarksRight count (counters t.key (marks b l z c)) → {n a : ℕ} → LowestIs v n a → Tracks (rules pool rows count) o v (counters t.key (marks b l z a))
   relow k h w = record { marked = record { long = h.long; broken = h.broken; low = h.low; zero = h.zero }; small = k.small; each = k.each; below = w.below }
 
-  pub counted_below : Tracks (rules pool rows count) (index starts lists) v (counters key m) → DecidedBelow v m.atom
+  pub counted_below : Tracks (rules pool rows count) o v t → DecidedBelow v t.marks.atom
   counted_below k = k.below
 
-  pub counted_fit : Indexed (rules pool rows count) (index starts lists) → Tracks (rules pool rows count) (index starts lists) v (counters key m) → {ls : List ℤ} {ms : List ℕ} {len : ℕ} → Good (places ls ms v len) → {n : ℕ} → Formed n pool rows count → Fit (bodies pool rows) (index starts lists) v key
-  counted_fit i k g {n} f = record { weighable = indexed_weighable i (readable n pool rows count f); shaped = i.shaped; value_len = g.value_len; key_len = k.marked.long }
+pub counted_fit : {pool : List ℤ} {rows : List Row} {count n : ℕ} {o : Index} {p : Places} {t : Counters} → Indexed (rules pool rows count) o → Tracks (rules pool rows count) o p.value t → Good p → Formed n pool rows count
+    → Fit (bodies pool rows) o p.value t.key
+counted_fit {pool} {rows} {count} {n} i k g f = record { weighable = indexed_weighable i (readable n pool rows count f); shaped = i.shaped; value_len = g.value_len; key_len = k.marked.long }
 
 pub indexed_few : {pool : List ℤ} {rows : List Row} {count : ℕ} {o : Index} → Indexed (rules pool rows count) o → count ≤ 2048
 indexed_few i = i.few
@@ -115,32 +117,29 @@ module _ (g : Rules) (n : ℕ) (s : AssumedEntries) (t : Places) (bs : Bodies) (
   pub after_violated : x ≡ test_of g n s t.value t.len → {i : ℕ} → x ≡ SoftViolated i → {t₁ : Places} {y₁ : Counters} → counted_trail t₁ y₁ ≡ back_all bs o (counted_trail t y) → stepped x t₁ ≡ step_of g n s t
   after_violated e q z = step_violated g n s t e q (ap (λ (h : CountedTrail). h.trail) z ∙ back_trail bs o t.len (counted_trail t y))
 
-pub after_full : (g : Rules) (n : ℕ) (s : AssumedEntries) (ls : List ℤ) (ms v : List ℕ) {k len : ℕ} {x : Tested} → x ≡ test_of g n s v len → x ≡ Full → k ≡ len → stepped x (places ls ms v k) ≡ step_of g n s (places ls ms v len)
-after_full g n s ls ms v {len = len} e q z = rw z (step_full g n s (places ls ms v len) e q)
+pub after_full : (g : Rules) (n : ℕ) (s : AssumedEntries) (t : Places) {x : Tested} → x ≡ test_of g n s t.value t.len → x ≡ Full → stepped x t ≡ step_of g n s t
+after_full g n s t e q = step_full g n s t e q
 
 pub after_open : (pool : List ℤ) (rows : List Row) (count n : ℕ) (s : AssumedEntries) (t : Places) (bs : Bodies) (o : Index) (y : Counters) {x : Tested} {l : ℤ} → Formed n pool rows count → FormedSoft n s
     → x ≡ test_of (rules pool rows count) n s t.value t.len → x ≡ Open l → {t₁ : Places} {y₁ : Counters} → counted_trail t₁ y₁ ≡ put_all bs o (to_z w32 (of_z w32 l)) 1 (counted_trail t y) → stepped (Open l) t₁ ≡ step_of (rules pool rows count) n s t
 after_open pool rows count n s t bs o y {l = l} f w e q z = step_open pool rows count n s t f w e q (ap (λ (h : CountedTrail). h.trail) z ∙ put_trail bs o (to_z w32 (of_z w32 l)) 1 (counted_trail t y))
 
-module _ {g : Rules} {o : Index} (t : Places) (y : Counters) where
-  pub counted_back : Indexed g o → Good t → Tracks g o t.value y → {ls₁ : List ℤ} {ms₁ v₁ : List ℕ} {k₁ : ℕ} {y₁ : Counters} → counted_trail (places ls₁ ms₁ v₁ k₁) y₁ ≡ back_all (bodies g.pool g.rows) o (counted_trail t y) → Tracks g o v₁ y₁
-  counted_back i f k {v₁ = v₁} {y₁ = y₁} z =
+module _ {g : Rules} {o : Index} {t : Places} {y : Counters} (i : Indexed g o) (f : Good t) (k : Tracks g o t.value y) {t₁ : Places} {y₁ : Counters} where
+  pub counted_back : counted_trail t₁ y₁ ≡ back_all (bodies g.pool g.rows) o (counted_trail t y) → Tracks g o t₁.value y₁
+  counted_back z =
       let c = back_counted g o i t.len (counted_trail t y) f f.short k in
-      let p : v₁ ≡ (back_all (bodies g.pool g.rows) o (counted_trail t y)).trail.value = ap (λ (h : CountedTrail). h.trail.value) z in
+      let p : t₁.value ≡ (back_all (bodies g.pool g.rows) o (counted_trail t y)).trail.value = ap (λ (h : CountedTrail). h.trail.value) z in
       let q : y₁ ≡ (back_all (bodies g.pool g.rows) o (counted_trail t y)).counters = ap (λ (h : CountedTrail). h.counters) z in
       rw (p, q) c
 
-  pub counted_push : Indexed g o → Good t → Tracks g o t.value y → (l : ℤ) → nat_abs l ≤ 1024 → {ls₁ : List ℤ} {ms₁ v₁ : List ℕ} {k₁ : ℕ} {y₁ : Counters} → counted_trail (places ls₁ ms₁ v₁ k₁) y₁ ≡ put_all (bodies g.pool g.rows) o l 1 (counted_trail t y) → Tracks g o v₁ y₁
-  counted_push i f k l s {v₁ = v₁} {y₁ = y₁} z =
+  pub counted_push : (l : ℤ) → nat_abs l ≤ 1024 → counted_trail t₁ y₁ ≡ put_all (bodies g.pool g.rows) o l 1 (counted_trail t y) → Tracks g o t₁.value y₁
+  counted_push l s z =
       let c = put_counted g o i l 1 (counted_trail t y) f.value_len s k in
-      let p : v₁ ≡ (put_all (bodies g.pool g.rows) o l 1 (counted_trail t y)).trail.value = ap (λ (h : CountedTrail). h.trail.value) z in
+      let p : t₁.value ≡ (put_all (bodies g.pool g.rows) o l 1 (counted_trail t y)).trail.value = ap (λ (h : CountedTrail). h.trail.value) z in
       let q : y₁ ≡ (put_all (bodies g.pool g.rows) o l 1 (counted_trail t y)).counters = ap (λ (h : CountedTrail). h.counters) z in
       rw (p, q) c
 
-pub counted_same : {g : Rules} {o : Index} {v key : List ℕ} {m m₁ : Marks} → Tracks g o v (counters key m) → m₁ ≡ m → Tracks g o v (counters key m₁)
-counted_same k e = rw e k
-
-pub counted_open : {pool : List ℤ} {rows : List Row} {count n : ℕ} {o : Index} {s : AssumedEntries} {ls : List ℤ} {ms v : List ℕ} {len : ℕ} {y : Counters} {x : Tested} → Formed n pool rows count → FormedSoft n s → Indexed (rules pool rows count) o → Good (places ls ms v len)
-    → x ≡ test_of (rules pool rows count) n s v len → Tracks (rules pool rows count) o v y → {l : ℤ} → x ≡ Open l
-    → {ls₁ : List ℤ} {ms₁ v₁ : List ℕ} {k₁ : ℕ} {y₁ : Counters} → counted_trail (places ls₁ ms₁ v₁ k₁) y₁ ≡ put_all (bodies pool rows) o (to_z w32 (of_z w32 l)) 1 (counted_trail (places ls ms v len) y) → Tracks (rules pool rows count) o v₁ y₁
-counted_open {pool} {rows} {count} {n} {o} {s} {ls} {ms} {v} {len} {y} f w i g e k {l} q z = counted_push (places ls ms v len) y i g k (to_z w32 (of_z w32 l)) (open_small pool rows count n s v len f w e q) z
+pub counted_open : {pool : List ℤ} {rows : List Row} {count n : ℕ} {o : Index} {s : AssumedEntries} {t : Places} {y : Counters} {x : Tested} → Formed n pool rows count → FormedSoft n s → Indexed (rules pool rows count) o → Good t
+    → x ≡ test_of (rules pool rows count) n s t.value t.len → Tracks (rules pool rows count) o t.value y → {l : ℤ} → x ≡ Open l
+    → {t₁ : Places} {y₁ : Counters} → counted_trail t₁ y₁ ≡ put_all (bodies pool rows) o (to_z w32 (of_z w32 l)) 1 (counted_trail t y) → Tracks (rules pool rows count) o t₁.value y₁
+counted_open {pool} {rows} {count} {n} {s = s} {t = t} f w i g e k {l} q z = counted_push i g k (to_z w32 (of_z w32 l)) (open_small pool rows count n s t.value t.len f w e q) z

@@ -1,36 +1,21 @@
 // The test of a trail, and one step of the machine, by the numbers of the rules.
-ghost use Rattle.std.specs.Prelude.{◌≡◌, ℕ, ◌≤◌};
+ghost use Rattle.std.specs.Prelude.{◌≡◌, ◌≤◌};
 ghost use Rattle.asp.specs.Sets.{set_of};
 ghost use Rattle.asp.specs.Tables.{Formed};
-ghost use Rattle.search.specs.Places.{places, Good};
+ghost use Rattle.search.specs.Places.{Good};
 ghost use Rattle.search.specs.Scan.{rules};
 ghost use Rattle.search.specs.Soft.{assumed_entries, ReadableSoft, FormedSoft};
 ghost use Rattle.search.specs.Branch.{Noted, lowest_of};
 ghost use Rattle.search.specs.Step.{test_by, test_of, stepped, step_of};
-ghost use Rattle.counting.specs.Counters.{index, counters, marks};
-ghost use Rattle.counting.specs.Counts.{Tracks, Indexed, Told, MarksRight};
+ghost use Rattle.counting.specs.Counts.{Tracks, Indexed};
 
 use crate::{scan, trail};
 use asp::rules::Row;
-use counting::counters::Marks;
+use counting::counters::{Counters, Index, Marks};
 use search::scan::Found;
 use search::step::Tested;
+use search::trail::Places;
 use search::{branch, step};
-
-// What the test says, and the marks after it.
-#[derive(Clone, Copy)]
-pub struct Examined {
-    pub tested: Tested,
-    pub marks: Marks,
-}
-
-// What a step came to, the trail's length and the marks after it.
-#[derive(Clone, Copy)]
-pub struct AfterStep {
-    pub tested: Tested,
-    pub len: usize,
-    pub marks: Marks,
-}
 
 // What the test says where the scan found this; a is the lowest undecided atom.
 fn test_by<'a>(
@@ -58,40 +43,45 @@ fn test_by<'a>(
     }
 }
 
-// The test of a trail of length len.
+// The test of a trail; the marks rise with it.
 fn test<'a>(
     pool: &'a [i32],
     rows: &'a [Row],
     rulecount: usize,
-    starts: &'a [u16],
-    lists: &'a [u16],
+    o: &'a Index,
     n: usize,
     tried: &'a [u8; 1025],
     wished: &'a [i32],
     blamed: &'a [u8],
     count: usize,
-    key: &'a [u16; 2048],
-    value: &'a [u8; 1025],
-    len: usize,
-    m: Marks,
-) -> Examined
+    trail: &'a Places,
+    t: &mut Counters,
+) -> Tested
     requires formed { Formed n pool.now rows.now rulecount }
     requires formed_soft { FormedSoft n (assumed_entries wished.now blamed.now count (set_of tried.now)) }
-    requires indexed { Indexed (rules pool.now rows.now rulecount) (index starts.now lists.now) × Tracks (rules pool.now rows.now rulecount) (index starts.now lists.now) value.now (counters key.now m) }
-    ensures { (result.tested ≡ test_of (rules pool.now rows.now rulecount) n (assumed_entries wished.now blamed.now count (set_of tried.now)) value.now len) × Tracks (rules pool.now rows.now rulecount) (index starts.now lists.now) value.now (counters key.now result.marks) }
+    requires indexed { Indexed (rules pool.now rows.now rulecount) o.now × Tracks (rules pool.now rows.now rulecount) o.now trail.now.value t.old }
+    ensures tested { result ≡ test_of (rules pool.now rows.now rulecount) n (assumed_entries wished.now blamed.now count (set_of tried.now)) trail.now.value trail.now.len }
+    ensures tracks { Tracks (rules pool.now rows.now rulecount) o.now trail.now.value t.new }
 {
-    let s = scan::scan(pool, rows, rulecount, key, m, value);
-    let a = branch::lowest(value, n, m.atom);
-    let t = test_by(s.found, n, tried, wished, blamed, count, value, len, a);
-    Examined {
-        tested: t,
-        marks: Marks {
-            low: s.low,
-            zero: s.zero,
-            atom: a,
-            ..m
-        },
-    }
+    let s = scan::scan(pool, rows, rulecount, &t.key, t.marks, &trail.value);
+    let a = branch::lowest(&trail.value, n, t.marks.atom);
+    t.marks = Marks {
+        low: s.low,
+        zero: s.zero,
+        atom: a,
+        ..t.marks
+    };
+    test_by(
+        s.found,
+        n,
+        tried,
+        wished,
+        blamed,
+        count,
+        &trail.value,
+        trail.len,
+        a,
+    )
 }
 
 // One step: the test, then the move that it asks for. A full trail stays, for the caller to judge.
@@ -99,62 +89,30 @@ pub fn step<'a>(
     pool: &'a [i32],
     rows: &'a [Row],
     rulecount: usize,
-    starts: &'a [u16],
-    lists: &'a [u16],
+    o: &'a Index,
     n: usize,
     tried: &'a [u8; 1025],
     wished: &'a [i32],
     blamed: &'a [u8],
     count: usize,
-    lits: &mut [i32; 1024],
-    signs: &mut [u8; 1024],
-    value: &mut [u8; 1025],
-    key: &mut [u16; 2048],
-    len: usize,
-    m: Marks,
-) -> AfterStep
+    trail: &mut Places,
+    t: &mut Counters,
+) -> Tested
     requires formed { Formed n pool.now rows.now rulecount }
     requires formed_soft { FormedSoft n (assumed_entries wished.now blamed.now count (set_of tried.now)) }
-    requires good { Good (places lits.old signs.old value.old len) }
-    requires indexed { Indexed (rules pool.now rows.now rulecount) (index starts.now lists.now) × Tracks (rules pool.now rows.now rulecount) (index starts.now lists.now) value.old (counters key.old m) }
-    ensures { (stepped result.tested (places lits.new signs.new value.new result.len) ≡ step_of (rules pool.now rows.now rulecount) n (assumed_entries wished.now blamed.now count (set_of tried.now)) (places lits.old signs.old value.old len)) × Tracks (rules pool.now rows.now rulecount) (index starts.now lists.now) value.new (counters key.new result.marks) }
+    requires good { Good trail.old }
+    requires indexed { Indexed (rules pool.now rows.now rulecount) o.now × Tracks (rules pool.now rows.now rulecount) o.now trail.old.value t.old }
+    ensures stepped { stepped result trail.new ≡ step_of (rules pool.now rows.now rulecount) n (assumed_entries wished.now blamed.now count (set_of tried.now)) trail.old }
+    ensures tracks { Tracks (rules pool.now rows.now rulecount) o.now trail.new.value t.new }
 {
-    let x = test(
-        pool, rows, rulecount, starts, lists, n, tried, wished, blamed, count, key, value, len, m,
+    let tested = test(
+        pool, rows, rulecount, o, n, tried, wished, blamed, count, trail, t,
     );
-    let t = x.tested;
-    let q = x.marks;
-    match t {
-        Tested::RuleBroken(_) => {
-            let k = trail::back(pool, rows, starts, lists, lits, signs, value, key, len, q);
-            AfterStep {
-                tested: t,
-                len: k.len,
-                marks: k.marks,
-            }
-        }
-        Tested::Full => AfterStep {
-            tested: t,
-            len: len,
-            marks: q,
-        },
-        Tested::SoftViolated(_) => {
-            let k = trail::back(pool, rows, starts, lists, lits, signs, value, key, len, q);
-            AfterStep {
-                tested: t,
-                len: k.len,
-                marks: k.marks,
-            }
-        }
-        Tested::Open(l) => {
-            let k = trail::push(
-                pool, rows, starts, lists, lits, signs, value, key, len, l, q,
-            );
-            AfterStep {
-                tested: t,
-                len: k.len,
-                marks: k.marks,
-            }
-        }
+    match tested {
+        Tested::RuleBroken(_) => trail::back(pool, rows, o, trail, t),
+        Tested::SoftViolated(_) => trail::back(pool, rows, o, trail, t),
+        Tested::Open(l) => trail::push(pool, rows, o, trail, t, l),
+        Tested::Full => (),
     }
+    tested
 }

@@ -1,157 +1,77 @@
 // The moves of the trail, with the numbers of the rules kept beside it.
-ghost use Rattle.std.specs.Prelude.{◌≡◌, ℕ, ◌+◌, ◌<◌, ◌≤◌, length, get_or, pos, nat_abs};
-ghost use Rattle.search.specs.Places.{places, Good};
-ghost use Rattle.counting.specs.Counters.{index, counters, bodies};
+ghost use Rattle.std.specs.Prelude.{◌≡◌, ◌-◌, ◌<◌, ◌≤◌, get_or, pos, nat_abs};
+ghost use Rattle.search.specs.Places.{Good};
+ghost use Rattle.counting.specs.Counters.{bodies};
 ghost use Rattle.counting.specs.Moves.{counted_trail, Fit, put_all, push_all, drop_all, back_all};
 
 use asp::literal;
 use asp::rules::Row;
-use counting::counters::Marks;
-use counting::{counters, weigh};
-use search::{trail, value};
-
-// A trail's length, and the marks.
-#[derive(Clone, Copy)]
-pub struct Moved {
-    pub len: usize,
-    pub marks: Marks,
-}
+use counting::counters::{Counters, Index};
+use counting::weigh;
+use search::trail::Places;
+use search::value;
 
 // A literal is added, with its mark.
-fn put<'a>(
-    pool: &'a [i32],
-    rows: &'a [Row],
-    starts: &'a [u16],
-    rules: &'a [u16],
-    lits: &mut [i32; 1024],
-    marks: &mut [u8; 1024],
-    value: &mut [u8; 1025],
-    key: &mut [u16; 2048],
-    len: usize,
+fn put(
+    pool: &[i32],
+    rows: &[Row],
+    o: &Index,
+    trail: &mut Places,
+    t: &mut Counters,
     l: i32,
     mark: u8,
-    m: Marks,
-) -> Moved
-    requires len_bound { (len < 1024) × (nat_abs l ≤ 1024) }
-    requires fit { Fit (bodies pool.now rows.now) (index starts.now rules.now) value.old key.old }
-    ensures { counted_trail (places lits.new marks.new value.new result.len) (counters key.new result.marks) ≡ put_all (bodies pool.now rows.now) (index starts.now rules.now) l mark (counted_trail (places lits.old marks.old value.old len) (counters key.old m)) }
+)
+    requires len_bound { (trail.old.len < 1024) × (nat_abs l ≤ 1024) }
+    requires fit { Fit (bodies pool.now rows.now) o.now trail.old.value t.old.key }
+    ensures { counted_trail trail.new t.new ≡ put_all (bodies pool.now rows.now) o.now l mark (counted_trail trail.old t.old) }
 {
     let a = literal::atom(l);
-    let s = value::side(l);
-    let z = counters::assign(starts, rules, value, a, s, key, m);
-    let k = trail::put(lits, marks, value, len, l, mark);
-    if !weigh::is_named(starts, a) {
-        return Moved { len: k, marks: z };
+    t.assign(o, &trail.value, a, value::side(l));
+    trail.put(l, mark);
+    if !weigh::is_named(o, a) {
+        return;
     }
-    Moved {
-        len: k,
-        marks: weigh::reweigh(pool, rows, starts, rules, a, value, key, z),
-    }
+    weigh::reweigh(pool, rows, o, a, &trail.value, t);
 }
 
 // On an open trail: a literal is added as a decision.
-pub fn push<'a>(
-    pool: &'a [i32],
-    rows: &'a [Row],
-    starts: &'a [u16],
-    rules: &'a [u16],
-    lits: &mut [i32; 1024],
-    marks: &mut [u8; 1024],
-    value: &mut [u8; 1025],
-    key: &mut [u16; 2048],
-    len: usize,
-    l: i32,
-    m: Marks,
-) -> Moved
-    requires len_bound { (len < 1024) × (nat_abs l ≤ 1024) }
-    requires fit { Fit (bodies pool.now rows.now) (index starts.now rules.now) value.old key.old }
-    ensures { counted_trail (places lits.new marks.new value.new result.len) (counters key.new result.marks) ≡ push_all (bodies pool.now rows.now) (index starts.now rules.now) l (counted_trail (places lits.old marks.old value.old len) (counters key.old m)) }
+pub fn push(pool: &[i32], rows: &[Row], o: &Index, trail: &mut Places, t: &mut Counters, l: i32)
+    requires len_bound { (trail.old.len < 1024) × (nat_abs l ≤ 1024) }
+    requires fit { Fit (bodies pool.now rows.now) o.now trail.old.value t.old.key }
+    ensures { counted_trail trail.new t.new ≡ push_all (bodies pool.now rows.now) o.now l (counted_trail trail.old t.old) }
 {
-    put(
-        pool, rows, starts, rules, lits, marks, value, key, len, l, 1, m,
-    )
+    put(pool, rows, o, trail, t, l, 1);
 }
 
-// What is taken from the trail, and the marks after it.
-#[derive(Clone, Copy)]
-pub struct Taken {
-    pub literal: i32,
-    pub marks: Marks,
-}
-
-// The literal at k, the last, is taken away.
-fn take<'a>(
-    pool: &'a [i32],
-    rows: &'a [Row],
-    starts: &'a [u16],
-    rules: &'a [u16],
-    lits: &mut [i32; 1024],
-    marks: &mut [u8; 1024],
-    value: &mut [u8; 1025],
-    key: &mut [u16; 2048],
-    k: usize,
-    m: Marks,
-) -> Taken
-    requires k_bound { (k < 1024) × (nat_abs (get_or lits.old k (pos 0)) ≤ 1024) }
-    requires fit { Fit (bodies pool.now rows.now) (index starts.now rules.now) value.old key.old × (length lits.old ≡ 1024) }
-    ensures { (counted_trail (places lits.new marks.new value.new k) (counters key.new result.marks) ≡ drop_all (bodies pool.now rows.now) (index starts.now rules.now) k (counted_trail (places lits.old marks.old value.old k) (counters key.old m))) × (result.literal ≡ get_or lits.old k (pos 0)) }
+// The last literal is taken away.
+fn take(pool: &[i32], rows: &[Row], o: &Index, trail: &mut Places, t: &mut Counters) -> i32
+    requires last { (0 < trail.old.len) × (trail.old.len ≤ 1024) × (nat_abs (get_or trail.old.lits (trail.old.len - 1) (pos 0)) ≤ 1024) }
+    requires fit { Fit (bodies pool.now rows.now) o.now trail.old.value t.old.key }
+    ensures trail { counted_trail trail.new t.new ≡ drop_all (bodies pool.now rows.now) o.now (trail.old.len - 1) (counted_trail trail.old t.old) }
+    ensures literal { result ≡ get_or trail.old.lits (trail.old.len - 1) (pos 0) }
 {
-    let l = lits[k];
-    let a = literal::atom(l);
-    let x = counters::forget(starts, rules, value, a, key, m);
-    let t = trail::take(lits, marks, value, k);
-    if !weigh::is_named(starts, a) {
-        return Taken {
-            literal: t,
-            marks: x,
-        };
+    let a = literal::atom(trail.lits[trail.len - 1]);
+    t.forget(o, &trail.value, a);
+    let l = trail.take();
+    if !weigh::is_named(o, a) {
+        return l;
     }
-    Taken {
-        literal: t,
-        marks: weigh::reweigh(pool, rows, starts, rules, a, value, key, x),
-    }
+    weigh::reweigh(pool, rows, o, a, &trail.value, t);
+    l
 }
 
 // On a conflict: cut after the last decision, which is replaced by its complement, flipped. The length is 0 where there was no decision.
-pub fn back<'a>(
-    pool: &'a [i32],
-    rows: &'a [Row],
-    starts: &'a [u16],
-    rules: &'a [u16],
-    lits: &mut [i32; 1024],
-    marks: &mut [u8; 1024],
-    value: &mut [u8; 1025],
-    key: &mut [u16; 2048],
-    len: usize,
-    m: Marks,
-) -> Moved
-    requires good { Good (places lits.old marks.old value.old len) }
-    requires fit { Fit (bodies pool.now rows.now) (index starts.now rules.now) value.old key.old }
-    ensures { counted_trail (places lits.new marks.new value.new result.len) (counters key.new result.marks) ≡ back_all (bodies pool.now rows.now) (index starts.now rules.now) (counted_trail (places lits.old marks.old value.old len) (counters key.old m)) }
+pub fn back(pool: &[i32], rows: &[Row], o: &Index, trail: &mut Places, t: &mut Counters)
+    requires good { Good trail.old }
+    requires fit { Fit (bodies pool.now rows.now) o.now trail.old.value t.old.key }
+    ensures { counted_trail trail.new t.new ≡ back_all (bodies pool.now rows.now) o.now (counted_trail trail.old t.old) }
 {
-    let mut k = len;
-    let mut x = m;
-    while 0 < k {
-        k -= 1;
-        let mark = marks[k];
-        let t = take(pool, rows, starts, rules, lits, marks, value, key, k, x);
-        x = t.marks;
+    while 0 < trail.len {
+        let mark = trail.marks[trail.len - 1];
+        let l = take(pool, rows, o, trail, t);
         if mark == 1 {
-            return put(
-                pool,
-                rows,
-                starts,
-                rules,
-                lits,
-                marks,
-                value,
-                key,
-                k,
-                literal::complement(t.literal),
-                2,
-                x,
-            );
+            put(pool, rows, o, trail, t, literal::complement(l), 2);
+            return;
         }
     }
-    Moved { len: 0, marks: x }
 }

@@ -2,4 +2,4 @@ use Rattle.indexing.proofs.LeafLaws.{Looking}
 use Rattle.indexing.proofs.leaf.has_rule.Given as goal
 
 abbrev pub invariant-loop-e : goal.invariant-loop-e
-invariant-loop-e l = Looking l.starts l.lists l.key l.a l.e-end l.e
+invariant-loop-e l = Looking l.o.starts l.o.rules l.key l.a l.e-end l.e

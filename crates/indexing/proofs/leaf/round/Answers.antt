@@ -7,8 +7,8 @@ use Rattle.indexing.proofs.leaf.round.Goals as goal
 pub add_rule-new-requires : goal.add_rule-new-requires
 add_rule-new-requires c = (formed_each c.requires.formed).each c.loop-r.r c.loop-r-test.true
 
-pub loop-r-preserved-then-key-r-ne2 : goal.loop-r-preserved-then-key-r-ne2
-loop-r-preserved-then-key-r-ne2 c = skipped c.requires.formed c.requires.leaf c.loop-r.invariant c.requires.sub.0 c.loop-r-test.true c.if-key-r-ne2.true
+pub loop-r-preserved-then-t-r-ne2 : goal.loop-r-preserved-then-t-r-ne2
+loop-r-preserved-then-t-r-ne2 c = skipped c.requires.formed c.requires.leaf c.loop-r.invariant c.requires.sub.0 c.loop-r-test.true c.if-t-r-ne2.true
 
 pub loop-r-preserved : goal.loop-r-preserved
 loop-r-preserved c = search (round_next, rules)

@@ -1,12 +1,21 @@
-use borrow.Author.Rules.{rules}
-use Rattle.stepping.proofs.MoveLaws.{back_next, back_here, back_none}
+use Rattle.stepping.proofs.MoveLaws.{back_next, back_here, back_none, dropped_shorter, dropped_len, dropped_fit, taken_small, other_small}
 use Rattle.stepping.proofs.trail.back.Goals as goal
 
-pub returns-then-mark-eq1 : goal.returns-then-mark-eq1
-returns-then-mark-eq1 c = back_here c.loop-k.invariant c.loop-k-test.true c.if-mark-eq1.true c.take-t.ensures.0 c.take-t.ensures.1 c.complement.ensures c.put.ensures
+pub put-requires-clause-len_bound : goal.put-requires-clause-len_bound
+put-requires-clause-len_bound c =
+    (dropped_len c.loop-trail.invariant c.loop-trail-test.true c.take-l.ensures.trail, other_small c.loop-trail.invariant c.loop-trail-test.true c.take-l.ensures.literal c.complement.ensures)
 
-pub loop-k-preserved : goal.loop-k-preserved
-loop-k-preserved c = search (back_next, rules)
+pub put-requires-clause-fit : goal.put-requires-clause-fit
+put-requires-clause-fit c = dropped_fit c.loop-trail.invariant c.loop-trail-test.true c.take-l.ensures.trail
+
+pub returns-then-mark-eq1 : goal.returns-then-mark-eq1
+returns-then-mark-eq1 c = back_here c.loop-trail.invariant c.loop-trail-test.true c.if-mark-eq1.true c.take-l.ensures.trail c.take-l.ensures.literal c.complement.ensures c.put.ensures
+
+pub loop-trail-smaller : goal.loop-trail-smaller
+loop-trail-smaller c = dropped_shorter c.loop-trail.invariant c.loop-trail-test.true c.take-l.ensures.trail
+
+pub loop-trail-preserved : goal.loop-trail-preserved
+loop-trail-preserved c = back_next c.loop-trail.invariant c.loop-trail-test.true c.if-mark-eq1.false c.take-l.ensures.trail
 
 pub returns : goal.returns
-returns c = search (back_none, rules)
+returns c = back_none c.loop-trail.invariant c.loop-trail-test.false

@@ -1,11 +1,10 @@
 use Rattle.stepping.proofs.MoveLaws.{Back}
-use Rattle.search.specs.Places.{places}
-use Rattle.counting.specs.Counters.{index, counters, bodies}
+use Rattle.counting.specs.Counters.{bodies}
 use Rattle.counting.specs.Moves.{counted_trail}
 use Rattle.stepping.proofs.trail.back.Given as goal
 
-abbrev pub invariant-loop-k : goal.invariant-loop-k
-invariant-loop-k l = Back (bodies l.pool l.rows) (index l.starts l.rules) (counted_trail (places l.initial.lits l.initial.marks l.initial.value l.len) (counters l.initial.key l.initial.x)) (counted_trail (places l.lits l.marks l.value l.k) (counters l.key l.x))
+abbrev pub invariant-loop-trail : goal.invariant-loop-trail
+invariant-loop-trail l = Back (bodies l.pool l.rows) l.o (counted_trail l.initial.trail l.initial.t) (counted_trail l.trail l.t)
 
-abbrev pub decreases-loop-k : goal.decreases-loop-k
-decreases-loop-k l = l.k
+abbrev pub decreases-loop-trail : goal.decreases-loop-trail
+decreases-loop-trail l = l.trail.len

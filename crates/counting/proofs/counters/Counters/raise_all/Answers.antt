@@ -1,6 +1,6 @@
 use borrow.Author.Rules.{rules}
 use Rattle.counting.proofs.CounterLaws.{raising_next, raising_done}
-use Rattle.counting.proofs.counters.raise_all.Goals as goal
+use Rattle.counting.proofs.counters.Counters.raise_all.Goals as goal
 
 pub loop-e-preserved : goal.loop-e-preserved
 loop-e-preserved c = search (raising_next, rules)

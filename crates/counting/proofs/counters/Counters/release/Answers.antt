@@ -1,6 +1,6 @@
 use Rattle.counting.proofs.CounterLaws.{released_none, released_in, released_out}
 use borrow.Author.Rules.{rules}
-use Rattle.counting.proofs.counters.release.Goals as goal
+use Rattle.counting.proofs.counters.Counters.release.Goals as goal
 
 pub returns-then-y-eq0 : goal.returns-then-y-eq0
 returns-then-y-eq0 c = search (released_none, rules)

@@ -1,6 +1,6 @@
 use Rattle.search.specs.Places.{put_of}
 use mir.Facts.{to_z-of_z}
-use Rattle.search.proofs.trail.put.Goals as goal
+use Rattle.search.proofs.trail.Places.put.Goals as goal
 
 pub returns : goal.returns
 unfolding put_of

@@ -1,6 +1,0 @@
-use Rattle.counting.specs.Counters.{counters}
-use Rattle.counting.proofs.CounterLaws.{Lowering}
-use Rattle.counting.proofs.counters.lower_all.Given as goal
-
-abbrev pub invariant-loop-e : goal.invariant-loop-e
-invariant-loop-e l = Lowering l.rules l.from l.end (counters l.initial.key l.initial.m) (counters l.key l.m) l.e
