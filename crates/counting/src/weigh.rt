@@ -87,16 +87,10 @@ impl Tally {
         ensures met { result.met ≡ self.met + pick (eqb x 1) w 0 }
         ensures most { result.most ≡ max self.most (pick (eqb x 0) w 0) }
     {
-        match x {
-            0 => Tally {
-                most: self.most.max(w),
-                ..self
-            },
-            1 => Tally {
-                met: self.met + w,
-                ..self
-            },
-            _ => self,
+        // Chosen without a branch on x, which cannot be foreseen.
+        Tally {
+            met: self.met + if x == 1 { w } else { 0 },
+            most: self.most.max(if x == 0 { w } else { 0 }),
         }
     }
 }
