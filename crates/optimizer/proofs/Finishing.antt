@@ -4,12 +4,12 @@ use mathlib.Core.Bool.{Bool, true, false}
 use mathlib.Core.List.{List}
 use Prim.Native.Nat.{ℕ, suc, ◌+◌, ◌-◌, ◌≤◌, ◌<◌}
 use native.Mathlib.Omega.{arith}
-use mir.Syntax.{w32, w64}
+use mir.Syntax.{w32}
 use mir.Val.{SFits, to_z, of_z}
 use mir.Facts.{to_z-of_z}
-use lib.IntN.{ℤ, pos, nat_abs, ◌+ℤ◌}
+use lib.IntN.{ℤ, pos, nat_abs}
 use lib.Signed.{lt_z}
-use lib.ListN.{length, get_or, set, take}
+use lib.ListN.{length, get_or, take}
 use borrow.Author.Tests.{lt-ltb, le-ltb}
 use Rattle.asp.specs.Sets.{pick}
 use Rattle.asp.specs.Literal.{same_ℤ}
@@ -19,16 +19,18 @@ use Rattle.asp.specs.Tables.{entry_at}
 use Rattle.cores.specs.declared.level.LevelTables.{LevelTables}
 use Rattle.cores.specs.Level.{under, greatest, core_fits, FormedPenalties}
 use Rattle.cores.specs.Level as lev
-use Rattle.cores.specs.Tables.{level_of, held_in, opened_tables, recorded_tables, FormedTables, Tried, tried, tried_tables, full_tables}
-use Rattle.cores.specs.declared.recording.Full.{Full}
-use Rattle.std.specs.Prelude.{Result, Ok, Err, is_err}
+use Rattle.cores.specs.Tables.{level_of, held_in, opened_tables, recorded_tables, FormedTables, tried, full_tables}
+use Rattle.std.specs.Prelude.{Ok, Err}
 use Rattle.cores.proofs.Kept.{level_formed, opened_means, opened_sound, first_stratum}
 use Rattle.advancing.specs.Source.{Levels, many, entries_in, penalties_at, FormedLevels}
 use Rattle.advancing.specs.declared.state.Work.{Work}
-use Rattle.advancing.specs.declared.state.Phase.TheVariants.{Level, Optimum}
-use Rattle.advancing.specs.declared.state.Phase.TheVariants as phase
+use Rattle.advancing.specs.declared.state.Phase.{Phase}
+use Rattle.advancing.specs.declared.state.Phase.TheVariants.{First, Level, Optimum, Incoherent, Full}
+use Rattle.advancing.specs.declared.state.Turn.{Turn}
+use Rattle.advancing.specs.declared.state.Turn.TheVariants.{Going, Without, Model}
 use Rattle.advancing.specs.State.{work}
-use Rattle.advancing.specs.Finish.{next_from, Placed, placed, begun_at, open_at, open_from, settle_of, costs_of, with_best, better_of, fallen, with_tables, tried_work}
+use Rattle.advancing.specs.Finish.{next_from, Placed, placed, begun_at, open_at, open_from, settle_of, costs_of, with_best, better_of, tried_work, finish_of}
+use Rattle.optimizer.specs.Ending.{records_of, recorded_work, finished_level, finished_of}
 use Rattle.advancing.proofs.Meanings.{formed_in}
 
 -- ---- the next level on which the bounds are not equal
@@ -137,3 +139,25 @@ better_level L w v {n} h e = subst (λ (u : Work). u.level < n) (sym e) (better_
 
 pub better_tables : (L : Levels) (w : Work) (v : List ℕ) → FormedTables w.tables → {b : Work} → b ≡ better_of L w v → FormedTables b.tables
 better_tables L w v h e = subst (λ (u : Work). FormedTables u.tables) (sym e) (better_keeps (λ b. FormedTables b.tables) L w v h h)
+
+-- ---- an end, where it is known whether the core was recorded, is `finish_of`: beside the chain
+
+pub finish_by : (L : Levels) (p : Phase) (w : Work) (v ms : List ℕ) (x : Turn) {b : Bool} → b ≡ records_of p x w.tables (length ms)
+    → finished_of L p b (pick b (recorded_work w ms) w) v x ≡ finish_of L p w v ms x
+finish_by L p w v ms x q = ap (λ (b : Bool). finished_of L p b (pick b (recorded_work w ms) w) v x) q ∙ by_phase p
+  where
+    by_room : (b : Bool) → finished_level L b (pick b (recorded_work w ms) w) v Without ≡ tried_work L w (pick b (tried (Ok tt) (recorded_tables w.tables w.stratum ms)) (tried (Err full_tables) w.tables))
+    by_room true = refl
+    by_room false = refl
+
+    by_turn : (y : Turn) → finished_of L Level (records_of Level y w.tables (length ms)) (pick (records_of Level y w.tables (length ms)) (recorded_work w ms) w) v y ≡ finish_of L Level w v ms y
+    by_turn Going = refl
+    by_turn Without = by_room (core_fits w.tables.count (held_in w.tables) (length ms))
+    by_turn Model = refl
+
+    by_phase : (y : Phase) → finished_of L y (records_of y x w.tables (length ms)) (pick (records_of y x w.tables (length ms)) (recorded_work w ms) w) v x ≡ finish_of L y w v ms x
+    by_phase First = refl
+    by_phase Level = by_turn x
+    by_phase Optimum = refl
+    by_phase Incoherent = refl
+    by_phase Full = refl

@@ -1,3 +1,4 @@
 pub mod Turning
 pub mod Prepare
 pub mod Lent
+pub mod Ending
