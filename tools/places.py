@@ -30,59 +30,46 @@ def line_of(text, at):
     return text.count("\n", 0, at) + 1
 
 
+def closing(text, i, pair):
+    """The place behind the bracket that closes the one at i."""
+    depth = 0
+    while True:
+        depth += {pair[0]: 1, pair[1]: -1}.get(text[i], 0)
+        i += 1
+        if depth == 0:
+            return i
+
+
 def functions(text):
     """Each function: its place, name, parameters, clauses, body."""
     for m in re.finditer(r"\bfn (\w+)", text):
         i = m.end()
-        depth = 0
         if text[i] == "<":
-            while True:
-                depth += {"<": 1, ">": -1}.get(text[i], 0)
-                i += 1
-                if depth == 0:
-                    break
+            i = closing(text, i, "<>")
         if text[i] != "(":
             continue
         start = i
-        depth = 0
-        while True:
-            depth += {"(": 1, ")": -1}.get(text[i], 0)
-            i += 1
-            if depth == 0:
-                break
+        i = closing(text, i, "()")
         params = text[start + 1 : i - 1]
         # the body begins at the first brace that stands after the clauses
         head = i
         while i < len(text) and text[i] not in "{;":
             nxt = re.compile(r"\s*(requires|ensures)[^{]*\{").match(text, i)
             if nxt:
-                i = nxt.end()
-                depth = 1
-                while depth:
-                    depth += {"{": 1, "}": -1}.get(text[i], 0)
-                    i += 1
+                i = closing(text, nxt.end() - 1, "{}")
             else:
                 i += 1
         clauses = text[head:i]
         if i >= len(text) or text[i] == ";":
             continue
         start = i
-        depth = 0
-        while True:
-            depth += {"{": 1, "}": -1}.get(text[i], 0)
-            i += 1
-            if depth == 0:
-                break
+        i = closing(text, i, "{}")
         yield m.start(), m.group(1), params, clauses, text[start + 1 : i - 1]
 
 
 def enums(text):
     for m in re.finditer(r"\benum (\w+)[^{;]*\{", text):
-        i = m.end()
-        depth = 1
-        while depth:
-            depth += {"{": 1, "}": -1}.get(text[i], 0)
-            i += 1
+        i = closing(text, m.end() - 1, "{}")
         body = text[m.end() : i - 1]
         flat = re.sub(r"\{[^{}]*\}|\([^()]*\)", lambda x: "#" + re.sub(r"[,\s]", "", x.group()), body)
         yield m.start(), m.group(1), [v.strip() for v in flat.split(",") if v.strip()]
@@ -91,11 +78,7 @@ def enums(text):
 def declared(text):
     """The body of each struct and enum."""
     for m in re.finditer(r"\b(?:struct|enum) \w+[^{;(]*\{", text):
-        i = m.end()
-        depth = 1
-        while depth:
-            depth += {"{": 1, "}": -1}.get(text[i], 0)
-            i += 1
+        i = closing(text, m.end() - 1, "{}")
         yield m.end(), text[m.end() : i - 1]
 
 
