@@ -27,7 +27,7 @@ use Rattle.search.specs.Weigh.{owed_at, met_at, least_at, body_rest}
 use Rattle.search.specs.declared.scan.Rest.{Rest}
 use Rattle.search.proofs.ScanLaws.{off_stays}
 use Rattle.search.proofs.Formed.{named_is, rule_in, atom_in_lem}
-use Rattle.counting.specs.declared.counters.Index.{Index}
+use Rattle.counting.specs.declared.index.Index.{Index}
 use Rattle.counting.specs.declared.counters.Counters.{Counters}
 use Rattle.counting.specs.Counters.{first, list_length, rest_number, weigh_number}
 use Rattle.counting.specs.Counts.{sum_from, times_in, weigh, term, key_of, list_of}

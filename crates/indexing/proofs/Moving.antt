@@ -32,7 +32,7 @@ use Rattle.search.proofs.TrailTables.{trail_length}
 use Rattle.counting.specs.Counts.{Tells}
 use Rattle.counting.proofs.Telling.{told}
 use Rattle.counting.specs.declared.counters.Marks.{Marks}
-use Rattle.counting.specs.declared.counters.Index.{Index}
+use Rattle.counting.specs.declared.index.Index.{Index}
 use Rattle.counting.specs.declared.counters.Counters.{Counters}
 use Rattle.counting.specs.Counters.{index, counters, Bodies, bodies}
 use Rattle.counting.specs.Moves.{CountedTrail, counted_trail, Fit, back_all}

@@ -20,7 +20,7 @@ use mir.Facts.{and_yes, or_yes}
 use Rattle.asp.proofs.Stability.{member_in}
 use Rattle.cores.proofs.Spans.{length_span, get_d_span, span_ext}
 use Rattle.choosing.specs.First.{tried_first, is_bodiless, chosen_by, freely_chosen_by, freely_chosen, paid_for}
-use Rattle.counting.specs.declared.counters.Index.{Index}
+use Rattle.counting.specs.declared.index.Index.{Index}
 use Rattle.indexing.specs.Leaf.{no_index}
 use Rattle.indexing.proofs.Lists.{lists_exist}
 use Rattle.optimizer.specs.declared.prepare.Preparation.{Preparation}

@@ -17,7 +17,7 @@ use Rattle.search.specs.declared.trail.Places.{Places}
 use Rattle.search.specs.Places.{places, side_of, put_of, drop_of, Good}
 use Rattle.search.proofs.PlacesLaws.{good_drop}
 use Rattle.counting.specs.declared.counters.Marks.{Marks}
-use Rattle.counting.specs.declared.counters.Index.{Index}
+use Rattle.counting.specs.declared.index.Index.{Index}
 use Rattle.counting.specs.declared.counters.Counters.{Counters}
 use Rattle.counting.specs.Counters.{index, counters, decide_of, release_of, Bodies, weigh_of}
 use Rattle.counting.specs.Moves.{CountedTrail, counted_trail, Fit, put_all, drop_all, back_all_from, back_all}

@@ -26,7 +26,7 @@ use Rattle.search.specs.Step.{unbroken, test_by, test_of, stepped, step_of}
 use Rattle.search.proofs.Formed.{readable}
 use Rattle.search.proofs.StepLaws.{step_broken, step_full, step_violated, step_open, open_small}
 use Rattle.counting.specs.declared.counters.Marks.{Marks}
-use Rattle.counting.specs.declared.counters.Index.{Index}
+use Rattle.counting.specs.declared.index.Index.{Index}
 use Rattle.counting.specs.declared.counters.Counters.{Counters}
 use Rattle.counting.specs.Counters.{index, counters, marks, Bodies, bodies, first, list_length}
 use Rattle.counting.specs.Moves.{CountedTrail, counted_trail, Weighable, Fit, put_all, drop_all, back_all_from, back_all}
@@ -49,24 +49,6 @@ module _ (n : ℕ) (s : AssumedEntries) (v : List ℕ) (len : ℕ) {f : Found} w
 
 pub test_done : (g : Rules) (n : ℕ) (s : AssumedEntries) (v : List ℕ) (len : ℕ) {f : Found} → f ≡ scan_of g v → {x : Tested} → x ≡ test_by n s v len f → x ≡ test_of g n s v len
 test_done g n s v len e q = q ∙ ap (test_by n s v len) e
-
--- the rows of the weighted bodies can be read
-pub indexed_weighable : {g : Rules} {o : Index} → Indexed g o → Readable g → Weighable (bodies g.pool g.rows) o
-indexed_weighable {g} {o} i f = record {
-  each = λ a e h p q.
-      let r = get_or o.rules e 0 in
-      let c : get_or o.rules e 0 < g.count = i.inside (2050 + a) e (omega arith) p q in
-      let w : is_weighted (row_of g (get_or o.rules e 0)).body ≡ true = i.bodied (get_or o.rules e 0) a c h (some a e p q) in
-      record {
-        long = omega (arith, f.long);
-        row = record { weighted = w; single = f.single (get_or o.rules e 0) c; inside = f.weighed (get_or o.rules e 0) c w; small = f.small (get_or o.rules e 0) c };
-      };
-}
-  where
-    some : (a e : ℕ) → first o (2050 + a) ≤ e → e < first o (2050 + a) + list_length o (2050 + a) → times_in o (get_or o.rules e 0) (2050 + a) ≡ 0 → ⊥
-    some a e p q z =
-        let y = sum_part (λ x. ind (eqb (get_or o.rules x 0) (get_or o.rules e 0))) e (first o (2050 + a)) (list_length o (2050 + a)) p q in
-        omega (arith, rw (eq-eqb (get_or o.rules e 0) (get_or o.rules e 0) refl) at y)
 
 module _ {pool : List ℤ} {rows : List Row} {count : ℕ} {o : Index} {v : List ℕ} {t : Counters} where
   pub counted_told : Indexed (rules pool rows count) o → Tracks (rules pool rows count) o v t → Told (rules pool rows count) v t.key

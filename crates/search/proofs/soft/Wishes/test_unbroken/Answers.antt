@@ -1,9 +1,9 @@
 use Rattle.search.proofs.StepLaws.{test_full, test_violated, test_open}
 use borrow.Author.Rules.{rules}
-use Rattle.search.proofs.step.test_unbroken.Goals as goal
+use Rattle.search.proofs.soft.Wishes.test_unbroken.Goals as goal
 
-pub returns-then-n-len : goal.returns-then-n-len
-returns-then-n-len c = search (test_full, rules)
+pub returns-then-self-trail : goal.returns-then-self-trail
+returns-then-self-trail c = search (test_full, rules)
 
 pub returns-in-Some : goal.returns-in-Some
 returns-in-Some c = search (test_violated, rules)
