@@ -1,6 +1,7 @@
 -- The ways that a test and a step go, from what their calls say. Assumes nothing.
 use mathlib.Core.Path.{◌≡◌, refl, ap, ◌∙◌}
 use mathlib.Core.Bool.{Bool, true, false}
+use mathlib.Core.Logic.{◌⊎◌, inl, inr}
 use mathlib.Core.List.{List}
 use Prim.Native.Nat.{ℕ, zero, suc, ◌+◌, ◌≤◌, ◌<◌}
 use native.Mathlib.Omega.{arith}
@@ -28,8 +29,8 @@ use Rattle.search.proofs.StepLaws.{step_broken, step_full, step_violated, step_o
 use Rattle.counting.specs.declared.counters.Marks.{Marks}
 use Rattle.counting.specs.declared.index.Index.{Index}
 use Rattle.counting.specs.declared.counters.Counters.{Counters}
-use Rattle.counting.specs.Counters.{index, counters, marks, Bodies, bodies, first, list_length}
-use Rattle.counting.specs.Moves.{CountedTrail, counted_trail, Weighable, Fit, put_all, drop_all, back_all_from, back_all}
+use Rattle.counting.specs.Counters.{counters, marks, Bodies, bodies, first, list_length}
+use Rattle.counting.specs.Moves.{CountedTrail, counted_trail, put_all, drop_all, back_all_from, back_all}
 use Rattle.counting.specs.Counts.{times_in, MarksRight, Tracks, Indexed, Told}
 use Rattle.counting.proofs.Sums.{sum_part}
 use Rattle.counting.proofs.Telling.{told}
@@ -63,13 +64,6 @@ module _ {pool : List ℤ} {rows : List Row} {count : ℕ} {o : Index} {v : List
   pub counted_below : Tracks (rules pool rows count) o v t → DecidedBelow v t.marks.atom
   counted_below k = k.below
 
-pub counted_fit : {pool : List ℤ} {rows : List Row} {count n : ℕ} {o : Index} {p : Places} {t : Counters} → Indexed (rules pool rows count) o → Tracks (rules pool rows count) o p.value t → Good p → Formed n pool rows count
-    → Fit (bodies pool rows) o p.value t.key
-counted_fit {pool} {rows} {count} {n} i k g f = record { weighable = indexed_weighable i (readable n pool rows count f); shaped = i.shaped; value_len = g.value_len; key_len = k.marked.long }
-
-pub indexed_few : {pool : List ℤ} {rows : List Row} {count : ℕ} {o : Index} → Indexed (rules pool rows count) o → count ≤ 2048
-indexed_few i = i.few
-
 -- ---- the trail after a move is the one of the machine
 
 put_trail : (bs : Bodies) (o : Index) (l : ℤ) (m : ℕ) (h : CountedTrail) → (put_all bs o l m h).trail ≡ put_of l m h.trail
@@ -98,6 +92,10 @@ module _ (g : Rules) (n : ℕ) (s : AssumedEntries) (t : Places) (bs : Bodies) (
 
   pub after_violated : x ≡ test_of g n s t.value t.len → {i : ℕ} → x ≡ SoftViolated i → {t₁ : Places} {y₁ : Counters} → counted_trail t₁ y₁ ≡ back_all bs o (counted_trail t y) → stepped x t₁ ≡ step_of g n s t
   after_violated e q z = step_violated g n s t e q (ap (λ (h : CountedTrail). h.trail) z ∙ back_trail bs o t.len (counted_trail t y))
+
+  pub after_cut : x ≡ test_of g n s t.value t.len → ((r : ℕ) × (x ≡ RuleBroken r)) ⊎ ((i : ℕ) × (x ≡ SoftViolated i)) → {t₁ : Places} {y₁ : Counters} → counted_trail t₁ y₁ ≡ back_all bs o (counted_trail t y) → stepped x t₁ ≡ step_of g n s t
+  after_cut e (inl q) z = after_broken e q.1 z
+  after_cut e (inr q) z = after_violated e q.1 z
 
 pub after_full : (g : Rules) (n : ℕ) (s : AssumedEntries) (t : Places) {x : Tested} → x ≡ test_of g n s t.value t.len → x ≡ Full → stepped x t ≡ step_of g n s t
 after_full g n s t e q = step_full g n s t e q
