@@ -17,6 +17,9 @@ use Rattle.counting.specs.declared.counters.Marks.{Marks}
 abbrev pub Shaped : Index → Type 0
 Shaped o = Shape o.starts o.rules
 
+abbrev pub index : (s r : List ℕ) → Shape s r → Index
+index s r f = record { starts = s; rules = r; shape = f }
+
 abbrev pub counters : List ℕ → Marks → Counters
 counters k m = record { key = k; marks = m }
 

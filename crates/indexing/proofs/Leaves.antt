@@ -207,7 +207,7 @@ module _ (n : ℕ) (pool : List ℤ) (rows : List Row) (count : ℕ) (form : For
     in_body : (l : ℤ) (p : StandsAt G leaf.readied r c l) → W.first + W.heads ≤ p.at → truth_at v l ≡ 1
     in_body l p a = let z : l ≡ get_or pool p.at (pos 0) = sym p.is ∙ cond_body p.at a in rw z (body_true p.at a p.to)
 
-    body_key : W.first + W.heads ≤ lo_in false rows r → sum_from (λ a. term o r a (get_or v a 0)) 0 1025 ≡ 0
+    body_key : W.first + W.heads ≤ lo_in false (row_at rows r) → sum_from (λ a. term o r a (get_or v a 0)) 0 1025 ≡ 0
     body_key a = sum_none (λ a. term o r a (get_or v a 0)) 0 1025 (λ x p q. term_zero x (omega arith) (λ l e k. in_body l k (omega (arith, k.from))))
 
     normal_choice : is_choice W.head ≡ true → key_of G o v r ≡ 2
