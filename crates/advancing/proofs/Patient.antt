@@ -8,7 +8,9 @@ use lib.IntN.{ℤ, pos, neg_ℤ}
 use lib.ListN.{get_or}
 use Rattle.asp.specs.Sets.{pick}
 use Rattle.search.specs.declared.trail.Places.{Places}
-use Rattle.search.specs.Places.{put_of, push_of, drop_of, back_from, back_of}
+use Rattle.search.specs.declared.trail.Mark.{Mark}
+use Rattle.search.specs.declared.trail.Mark.TheVariants.{Free, Flipped}
+use Rattle.search.specs.Places.{is_decision, put_of, push_of, drop_of, back_from, back_of}
 use Rattle.search.specs.Scan.{scan_of}
 use Rattle.search.specs.Step.{test_of}
 use Rattle.search.specs.declared.step.Tested.{Tested}
@@ -36,9 +38,9 @@ use Rattle.advancing.proofs.Advancing.{rest_advance, rest_advances}
 back_len : (k : ℕ) (t : Places) → t.len ≡ k → (back_from k t).len ≤ k
 unfolding back_from drop_of put_of
 back_len zero t e = omega arith
-back_len (suc k) t e = go (eqb (get_or t.marks k 0) 1) (back_len k (drop_of k t) refl)
+back_len (suc k) t e = go (is_decision (get_or t.marks k Free)) (back_len k (drop_of k t) refl)
   where
-    go : (b : Bool) → (back_from k (drop_of k t)).len ≤ k → (pick b (put_of (neg_ℤ (get_or t.lits k (pos 0))) 2 (drop_of k t)) (back_from k (drop_of k t))).len ≤ suc k
+    go : (b : Bool) → (back_from k (drop_of k t)).len ≤ k → (pick b (put_of (neg_ℤ (get_or t.lits k (pos 0))) Flipped (drop_of k t)) (back_from k (drop_of k t))).len ≤ suc k
     go true h = omega arith
     go false h = omega arith
 

@@ -14,7 +14,9 @@ use Rattle.asp.specs.declared.rules.Row.{Row}
 use Rattle.asp.specs.Sets.{pick}
 use Rattle.asp.specs.Tables.{is_choice, is_weighted}
 use Rattle.asp.proofs.Signed.{abs_neg, clash}
-use Rattle.search.specs.Places.{side_of, truth_of, put_of, drop_of, Good}
+use Rattle.search.specs.declared.trail.Mark.{Mark}
+use Rattle.search.specs.declared.trail.Mark.TheVariants.{Free, Flipped}
+use Rattle.search.specs.Places.{side_of, truth_of, is_decision, put_of, drop_of, Good}
 use Rattle.search.specs.declared.scan.Rest.{Rest}
 use Rattle.search.specs.declared.scan.Rest.TheVariants.{All, One, Off}
 use Rattle.search.specs.Scan.{Rules, row_of, head_rest, weighted_rest}
@@ -245,7 +247,7 @@ module _ (g : Rules) (o : Index) (ix : Indexed g o) where
   abbrev bs : Bodies
   bs = bodies g.pool g.rows
 
-  pub put_counted : (l : ℤ) (m : ℕ) (h : CountedTrail) → length h.trail.value ≡ 1025 → nat_abs l ≤ 1024 → Tracks g o h.trail.value h.counters
+  pub put_counted : (l : ℤ) (m : Mark) (h : CountedTrail) → length h.trail.value ≡ 1025 → nat_abs l ≤ 1024 → Tracks g o h.trail.value h.counters
       → Tracks g o (put_all bs o l m h).trail.value (put_all bs o l m h).counters
   unfolding put_all put_of
   put_counted l m h n s k =
@@ -271,7 +273,7 @@ module _ (g : Rules) (o : Index) (ix : Indexed g o) where
       → Tracks g o (back_all_from bs o j h).trail.value (back_all_from bs o j h).counters
   unfolding back_all_from
   back_counted zero h f l k = k
-  back_counted (suc j) h f l k = go (eqb (get_or h.trail.marks j 0) 1) (back_counted j (drop_all bs o j h) d (omega arith) c)
+  back_counted (suc j) h f l k = go (is_decision (get_or h.trail.marks j Free)) (back_counted j (drop_all bs o j h) d (omega arith) c)
     where
       d : Good (drop_all bs o j h).trail
       d = drop_good j h f (omega arith)
@@ -280,6 +282,6 @@ module _ (g : Rules) (o : Index) (ix : Indexed g o) where
       c = drop_counted j h f.value_len (f.small j) k
 
       go : (b : Bool) → Tracks g o (back_all_from bs o j (drop_all bs o j h)).trail.value (back_all_from bs o j (drop_all bs o j h)).counters
-          → Tracks g o (pick b (put_all bs o (neg_ℤ (get_or h.trail.lits j (pos 0))) 2 (drop_all bs o j h)) (back_all_from bs o j (drop_all bs o j h))).trail.value (pick b (put_all bs o (neg_ℤ (get_or h.trail.lits j (pos 0))) 2 (drop_all bs o j h)) (back_all_from bs o j (drop_all bs o j h))).counters
-      go true r = put_counted (neg_ℤ (get_or h.trail.lits j (pos 0))) 2 (drop_all bs o j h) d.value_len (rw abs_neg (f.small j)) c
+          → Tracks g o (pick b (put_all bs o (neg_ℤ (get_or h.trail.lits j (pos 0))) Flipped (drop_all bs o j h)) (back_all_from bs o j (drop_all bs o j h))).trail.value (pick b (put_all bs o (neg_ℤ (get_or h.trail.lits j (pos 0))) Flipped (drop_all bs o j h)) (back_all_from bs o j (drop_all bs o j h))).counters
+      go true r = put_counted (neg_ℤ (get_or h.trail.lits j (pos 0))) Flipped (drop_all bs o j h) d.value_len (rw abs_neg (f.small j)) c
       go false r = r

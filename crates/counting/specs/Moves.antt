@@ -4,7 +4,9 @@ use Rattle.asp.specs.declared.rules.Row.{Row}
 use Rattle.asp.specs.Sets.{pick}
 use Rattle.asp.specs.Tables.{is_choice, is_weighted, row_at}
 use Rattle.search.specs.declared.trail.Places.{Places}
-use Rattle.search.specs.Places.{side_of, put_of, drop_of}
+use Rattle.search.specs.declared.trail.Mark.{Mark}
+use Rattle.search.specs.declared.trail.Mark.TheVariants.{Free, Decision, Flipped}
+use Rattle.search.specs.Places.{side_of, is_decision, put_of, drop_of}
 use Rattle.counting.specs.declared.index.Index.{Index}
 use Rattle.counting.specs.declared.counters.Counters.{Counters}
 use Rattle.counting.specs.Counters.{first, list_length, decide_of, release_of, Bodies, weigh_of}
@@ -38,13 +40,13 @@ pub record ListReadable (b : Bodies) (rs : List ℕ) (from end : ℕ) : Type 0 w
 pub record Weighable (b : Bodies) (o : Index) : Type 0 where
   pub each : (a e : ℕ) → a ≤ 1024 → first o (2050 + a) ≤ e → e < first o (2050 + a) + list_length o (2050 + a) → RowReadable b (get_or o.rules e 0)
 
-unfoldable pub put_all : Bodies → Index → ℤ → ℕ → CountedTrail → CountedTrail
+unfoldable pub put_all : Bodies → Index → ℤ → Mark → CountedTrail → CountedTrail
 put_all b o l m h =
     counted_trail (put_of l m h.trail)
     (weigh_of b o (nat_abs l) (put_of l m h.trail).value (decide_of o (nat_abs l) (side_of l) (release_of o (nat_abs l) (get_or h.trail.value (nat_abs l) 0) h.counters)))
 
 abbrev pub push_all : Bodies → Index → ℤ → CountedTrail → CountedTrail
-push_all b o l h = put_all b o l 1 h
+push_all b o l h = put_all b o l Decision h
 
 unfoldable pub drop_all : Bodies → Index → ℕ → CountedTrail → CountedTrail
 drop_all b o k h =
@@ -53,7 +55,7 @@ drop_all b o k h =
 
 unfoldable pub back_all_from : Bodies → Index → ℕ → CountedTrail → CountedTrail
 back_all_from b o zero h = h
-back_all_from b o (suc k) h = pick (eqb (get_or h.trail.marks k 0) 1) (put_all b o (neg_ℤ (get_or h.trail.lits k (pos 0))) 2 (drop_all b o k h)) (back_all_from b o k (drop_all b o k h))
+back_all_from b o (suc k) h = pick (is_decision (get_or h.trail.marks k Free)) (put_all b o (neg_ℤ (get_or h.trail.lits k (pos 0))) Flipped (drop_all b o k h)) (back_all_from b o k (drop_all b o k h))
 
 abbrev pub back_all : Bodies → Index → CountedTrail → CountedTrail
 back_all b o h = back_all_from b o h.trail.len h

@@ -28,6 +28,8 @@ use Rattle.search.specs.Trail.{decision, Trail, literal_of, NotOn, FormedTrail, 
 use Rattle.search.specs.Query.{Query, broken_in, violated_in, Some, HoldsAll, RuleFails, SoftFails, Wanted, Conflict, IsOpen}
 use Rattle.search.specs.Machine.{Verdict, open', conflict, wanted, running, blame, resume, advance_by}
 use Rattle.search.specs.declared.trail.Places.{Places}
+use Rattle.search.specs.declared.trail.Mark.{Mark}
+use Rattle.search.specs.declared.trail.Mark.TheVariants.{Free, Decision}
 use Rattle.search.specs.Places.{places, fresh_places, side_of, push_of, back_of, trail_at, trail_of, value_on, SoundTrail}
 use Rattle.search.specs.Scan.{Rules, rules, scan_of}
 use Rattle.search.specs.Soft.{AssumedEntries, wished_at, violated_of, FormedSoft}
@@ -80,18 +82,18 @@ all_same (suc n) zero d = refl
 all_same (suc n) (suc i) d = all_same n i d
 
 -- (The lengths are variables, since `replicate 1024 x` writes itself out.)
-zeros_sound : (n a b c : ℕ) → a ≡ 1024 → b ≡ 1024 → c ≡ 1025 → SoundTrail n (places (replicate a (pos 0)) (replicate b 0) (replicate c 0) 0)
+zeros_sound : (n a b c : ℕ) → a ≡ 1024 → b ≡ 1024 → c ≡ 1025 → SoundTrail n (places (replicate a (pos 0)) (replicate b Free) (replicate c 0) 0)
 zeros_sound n a b c ea eb ec = record {
   good = record {
     lits_len = length-replicate a (pos 0) ∙ ea;
-    marks_len = length-replicate b 0 ∙ eb;
+    marks_len = length-replicate b Free ∙ eb;
     value_len = length-replicate c 0 ∙ ec;
     short = omega arith;
     small = λ i. rw (all_same a i (pos 0)) (omega arith);
   };
   formed = tt;
   valued = λ i. all_same c i 0;
-  empty = λ i h. (all_same a i (pos 0), all_same b i 0);
+  empty = λ i h. (all_same a i (pos 0), all_same b i Free);
 }
 
 -- "A fresh path has 1,024 empty places"
@@ -99,10 +101,10 @@ pub fresh_sound : (n : ℕ) → SoundTrail n fresh_places
 unfolding fresh_places
 fresh_sound n = zeros_sound n 1024 1024 1025 refl refl refl
 
-ended_zeros : (n a b c : ℕ) → a ≡ 1024 → b ≡ 1024 → c ≡ 1025 → (t : Places) → SoundTrail n t → t.len ≡ 0 → t ≡ places (replicate a (pos 0)) (replicate b 0) (replicate c 0) 0
+ended_zeros : (n a b c : ℕ) → a ≡ 1024 → b ≡ 1024 → c ≡ 1025 → (t : Places) → SoundTrail n t → t.len ≡ 0 → t ≡ places (replicate a (pos 0)) (replicate b Free) (replicate c 0) 0
 ended_zeros n a b c ea eb ec t d e =
     let ls : t.lits ≡ replicate a (pos 0) = ext_get_or (pos 0) t.lits (replicate a (pos 0)) (d.good.lits_len ∙ sym (length-replicate a (pos 0) ∙ ea)) (λ i h. (d.empty i (omega arith)).0 ∙ sym (all_same a i (pos 0))) in
-    let ms : t.marks ≡ replicate b 0 = ext_get_or 0 t.marks (replicate b 0) (d.good.marks_len ∙ sym (length-replicate b 0 ∙ eb)) (λ i h. (d.empty i (omega arith)).1 ∙ sym (all_same b i 0)) in
+    let ms : t.marks ≡ replicate b Free = ext_get_or Free t.marks (replicate b Free) (d.good.marks_len ∙ sym (length-replicate b Free ∙ eb)) (λ i h. (d.empty i (omega arith)).1 ∙ sym (all_same b i Free)) in
     let v : t.value ≡ replicate c 0 = ext_get_or 0 t.value (replicate c 0) (d.good.value_len ∙ sym (length-replicate c 0 ∙ ec)) (λ i h. d.valued i ∙ ap (λ (k : ℕ). value_on (trail_at t.lits t.marks k) i) e ∙ sym (all_same c i 0)) in
     rw (← ls, ← ms, ← v, ← e)
 
@@ -153,17 +155,17 @@ module _ (n : ℕ) (t : Places) (d : SoundTrail n t) where
 
   -- `push` is the machine's decision
   pub push_advances : (l : ℤ) (ms : List ℕ) → t.len < 1024 → running (trail_of (push_of l t)) ms ≡ advance_by (open' l) (trail_of t) ms
-  push_advances l ms h = ap (λ (x : Trail). running x ms) (put_trail l 1 t d.good h)
+  push_advances l ms h = ap (λ (x : Trail). running x ms) (put_trail l Decision t d.good h)
 
   pub push_sound : (l : ℤ) → t.len < 1024 → n ≤ 1024 → In n (nat_abs l) → NotOn (nat_abs l) (trail_of t) → SoundTrail n (push_of l t)
   push_sound l h k i o =
-      let e : trail_of (push_of l t) ≡ decision l ∷ trail_of t = put_trail l 1 t d.good h in
+      let e : trail_of (push_of l t) ≡ decision l ∷ trail_of t = put_trail l Decision t d.good h in
       let z : nat_abs l ≤ 1024 = omega (arith, i.1) in
       record {
-        good = good_put l 1 t d.good h z;
+        good = good_put l Decision t d.good h z;
         formed = rw e (i, o, d.formed);
-        valued = rw e (put_values l 1 t d.good z d.valued);
-        empty = put_empty l 1 t d.empty;
+        valued = rw e (put_values l Decision t d.good z d.valued);
+        empty = put_empty l Decision t d.empty;
       }
 
   -- ---- what the trail has cost (`Spent`) rises with each move, and is bounded

@@ -1,14 +1,30 @@
 // The trail (document 01's path): 1,024 places, their marks, the value of each atom; and its length. The moves over many places are in `stepping`.
 ghost use Rattle.std.specs.Prelude.{◌≡◌, ◌-◌, ◌<◌, ◌≤◌, get_or, pos, nat_abs};
-ghost use Rattle.search.specs.Places.{fresh_places, put_of, drop_of};
+ghost use Rattle.search.specs.Places.{is_decision, fresh_places, put_of, drop_of};
 
 use crate::value;
 use asp::literal;
 
+// "marked first or second": a decision, or the complement of one after a conflict; a free place is neither.
+#[derive(Clone, Copy, PartialEq, Eq, Debug)]
+pub enum Mark {
+    Free,
+    Decision,
+    Flipped,
+}
+
+impl Mark {
+    pub fn is_decision(self) -> bool
+        ensures { result ≡ is_decision self }
+    {
+        matches!(self, Mark::Decision)
+    }
+}
+
 #[derive(Clone, Copy)]
 pub struct Places {
     pub lits: [i32; 1024],
-    pub marks: [u8; 1024],
+    pub marks: [Mark; 1024],
     pub value: [u8; 1025],
     pub len: usize,
 }
@@ -20,14 +36,14 @@ impl Places {
     {
         Places {
             lits: [0; 1024],
-            marks: [0; 1024],
+            marks: [Mark::Free; 1024],
             value: [0; 1025],
             len: 0,
         }
     }
 
     // A literal is added, with its mark.
-    pub fn put(&mut self, l: i32, mark: u8)
+    pub fn put(&mut self, l: i32, mark: Mark)
         requires { (self.old.len < 1024) × (nat_abs l ≤ 1024) }
         ensures { self.new ≡ put_of l mark self.old }
     {
@@ -46,7 +62,7 @@ impl Places {
         let k = self.len - 1;
         let l = self.lits[k];
         self.lits[k] = 0;
-        self.marks[k] = 0;
+        self.marks[k] = Mark::Free;
         self.value[literal::atom(l)] = 0;
         self.len = k;
         l

@@ -14,7 +14,9 @@ use borrow.Author.Tests.{eq-eqb, ne_eqb}
 use Rattle.asp.specs.Sets.{pick}
 use Rattle.asp.proofs.Signed.{abs_neg, small_fits}
 use Rattle.search.specs.declared.trail.Places.{Places}
-use Rattle.search.specs.Places.{places, side_of, put_of, drop_of, Good}
+use Rattle.search.specs.declared.trail.Mark.{Mark}
+use Rattle.search.specs.declared.trail.Mark.TheVariants.{Free, Decision, Flipped}
+use Rattle.search.specs.Places.{is_decision, places, side_of, put_of, drop_of, Good}
 use Rattle.search.proofs.PlacesLaws.{good_drop}
 use Rattle.counting.specs.declared.counters.Marks.{Marks}
 use Rattle.counting.specs.declared.index.Index.{Index}
@@ -33,7 +35,7 @@ atom_small l h e = rw (e, back_to l h) h
 pub back_small : (l : ℤ) → nat_abs l ≤ 1024 → nat_abs (to_z w32 (of_z w32 l)) ≤ 1024
 back_small l h = rw (back_to l h) h
 
-module _ (bs : Bodies) (o : Index) (l : ℤ) (mark : ℕ) (t : Places) (y : Counters) where
+module _ (bs : Bodies) (o : Index) (l : ℤ) (mark : Mark) (t : Places) (y : Counters) where
   pub put_done : nat_abs l ≤ 1024 → {a s : ℕ} → a ≡ nat_abs (to_z w32 (of_z w32 l)) → s ≡ side_of (to_z w32 (of_z w32 l))
       → {y₁ : Counters} → y₁ ≡ decide_of o a s (release_of o a (get_or t.value a 0) y) → {t₁ : Places} → t₁ ≡ put_of (to_z w32 (of_z w32 l)) mark t
       → {y₂ : Counters} → y₂ ≡ weigh_of bs o a t₁.value y₁ → counted_trail t₁ y₂ ≡ put_all bs o l mark (counted_trail t y)
@@ -45,7 +47,7 @@ module _ (bs : Bodies) (o : Index) (a : ℕ) {b : Bool} (eb : b ≡ ltb (get_or 
   pub unnamed : (v : List ℕ) (y : Counters) → y ≡ weigh_of bs o a v y
   unnamed v y = sym (weigh_none bs o a v y (sym eb ∙ q))
 
-pub push_done : (bs : Bodies) (o : Index) (l : ℤ) (h : CountedTrail) → nat_abs l ≤ 1024 → {h₁ : CountedTrail} → h₁ ≡ put_all bs o (to_z w32 (of_z w32 l)) 1 h → h₁ ≡ put_all bs o l 1 h
+pub push_done : (bs : Bodies) (o : Index) (l : ℤ) (h : CountedTrail) → nat_abs l ≤ 1024 → {h₁ : CountedTrail} → h₁ ≡ put_all bs o (to_z w32 (of_z w32 l)) Decision h → h₁ ≡ put_all bs o l Decision h
 push_done bs o l h s e = rw (back_to l s) at e
 
 module _ (bs : Bodies) (o : Index) (k : ℕ) (t : Places) (y : Counters) where
@@ -65,13 +67,13 @@ pub back_start : (bs : Bodies) (o : Index) (h : CountedTrail) → Good h.trail �
 back_start bs o h g = record { good = g; rest = refl }
 
 module _ (bs : Bodies) (o : Index) (h : CountedTrail) (j : ℕ) where
-  from_next : (k : ℕ) → k ≡ suc j → (get_or h.trail.marks j 0 ≡ 1 → ⊥) → back_all_from bs o k h ≡ back_all_from bs o j (drop_all bs o j h)
+  from_next : (k : ℕ) → k ≡ suc j → is_decision (get_or h.trail.marks j Free) ≡ false → back_all_from bs o k h ≡ back_all_from bs o j (drop_all bs o j h)
   unfolding back_all_from
-  from_next k e q = rw (e, ne_eqb (get_or h.trail.marks j 0) 1 q)
+  from_next k e q = rw (e, q)
 
-  from_here : (k : ℕ) → k ≡ suc j → get_or h.trail.marks j 0 ≡ 1 → back_all_from bs o k h ≡ put_all bs o (neg_ℤ (get_or h.trail.lits j (pos 0))) 2 (drop_all bs o j h)
+  from_here : (k : ℕ) → k ≡ suc j → is_decision (get_or h.trail.marks j Free) ≡ true → back_all_from bs o k h ≡ put_all bs o (neg_ℤ (get_or h.trail.lits j (pos 0))) Flipped (drop_all bs o j h)
   unfolding back_all_from
-  from_here k e q = rw (e, eq-eqb (get_or h.trail.marks j 0) 1 q)
+  from_here k e q = rw (e, q)
 
   drop_len : (drop_all bs o j h).trail.len ≡ j
   unfolding drop_all drop_of
@@ -85,7 +87,7 @@ module _ {bs : Bodies} {o : Index} {h₀ h : CountedTrail} (i : Back bs o h₀ h
   abbrev j : ℕ
   j = h.trail.len - 1
 
-  pub back_next : (get_or h.trail.marks j 0 ≡ 1 → ⊥) → {h₁ : CountedTrail} → h₁ ≡ drop_all bs o j h → Back bs o h₀ h₁
+  pub back_next : is_decision (get_or h.trail.marks j Free) ≡ false → {h₁ : CountedTrail} → h₁ ≡ drop_all bs o j h → Back bs o h₀ h₁
   back_next q e = rw e (record {
     good = drop_good bs o h j i.good (omega (arith, i.good.short));
     rest = ap (λ (z : ℕ). back_all_from bs o z (drop_all bs o j h)) (drop_len bs o h j) ∙ (sym (from_next bs o h j h.trail.len (omega arith) q) ∙ i.rest);
@@ -109,9 +111,9 @@ module _ {bs : Bodies} {o : Index} {h₀ h : CountedTrail} (i : Back bs o h₀ h
   pub other_small : {l c : ℤ} → l ≡ get_or h.trail.lits j (pos 0) → c ≡ neg_ℤ (to_z w32 (of_z w32 l)) → nat_abs (to_z w32 (of_z w32 c)) ≤ 1024
   other_small e q = rw (other e q, abs_neg) (i.good.small j)
 
-  pub back_here : get_or h.trail.marks j 0 ≡ 1 → {h₁ : CountedTrail} → h₁ ≡ drop_all bs o j h
-      → {l c : ℤ} → l ≡ get_or h.trail.lits j (pos 0) → c ≡ neg_ℤ (to_z w32 (of_z w32 l)) → {h₂ : CountedTrail} → h₂ ≡ put_all bs o (to_z w32 (of_z w32 c)) 2 h₁ → h₂ ≡ back_all bs o h₀
-  back_here q e el ec f = f ∙ ap₂ (λ (z : ℤ) (x : CountedTrail). put_all bs o z 2 x) (other el ec) e ∙ sym (from_here bs o h j h.trail.len (omega arith) q) ∙ i.rest
+  pub back_here : is_decision (get_or h.trail.marks j Free) ≡ true → {h₁ : CountedTrail} → h₁ ≡ drop_all bs o j h
+      → {l c : ℤ} → l ≡ get_or h.trail.lits j (pos 0) → c ≡ neg_ℤ (to_z w32 (of_z w32 l)) → {h₂ : CountedTrail} → h₂ ≡ put_all bs o (to_z w32 (of_z w32 c)) Flipped h₁ → h₂ ≡ back_all bs o h₀
+  back_here q e el ec f = f ∙ ap₂ (λ (z : ℤ) (x : CountedTrail). put_all bs o z Flipped x) (other el ec) e ∙ sym (from_here bs o h j h.trail.len (omega arith) q) ∙ i.rest
 
 pub back_none : {bs : Bodies} {o : Index} {h₀ h : CountedTrail} → Back bs o h₀ h → h.trail.len ≤ 0 → h ≡ back_all bs o h₀
 unfolding back_all_from

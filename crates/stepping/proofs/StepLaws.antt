@@ -19,7 +19,9 @@ use Rattle.search.specs.declared.scan.Found.TheVariants.{Broken, Breaker, Clear}
 use Rattle.search.specs.declared.step.Tested.{Tested}
 use Rattle.search.specs.declared.step.Tested.TheVariants.{RuleBroken, Full, SoftViolated, Open}
 use Rattle.search.specs.declared.trail.Places.{Places}
-use Rattle.search.specs.Places.{places, put_of, drop_of, back_from, Good}
+use Rattle.search.specs.declared.trail.Mark.{Mark}
+use Rattle.search.specs.declared.trail.Mark.TheVariants.{Free, Decision, Flipped}
+use Rattle.search.specs.Places.{is_decision, places, put_of, drop_of, back_from, Good}
 use Rattle.search.specs.Scan.{Rules, rules, row_of, Readable, scan_of}
 use Rattle.search.specs.Soft.{AssumedEntries, FormedSoft}
 use Rattle.search.specs.Branch.{DecidedBelow, LowestIs}
@@ -66,7 +68,7 @@ module _ {pool : List ℤ} {rows : List Row} {count : ℕ} {o : Index} {v : List
 
 -- ---- the trail after a move is the one of the machine
 
-put_trail : (bs : Bodies) (o : Index) (l : ℤ) (m : ℕ) (h : CountedTrail) → (put_all bs o l m h).trail ≡ put_of l m h.trail
+put_trail : (bs : Bodies) (o : Index) (l : ℤ) (m : Mark) (h : CountedTrail) → (put_all bs o l m h).trail ≡ put_of l m h.trail
 unfolding put_all
 put_trail bs o l m h = refl
 
@@ -77,10 +79,10 @@ drop_trail bs o k h = refl
 pub back_trail : (bs : Bodies) (o : Index) (k : ℕ) (h : CountedTrail) → (back_all_from bs o k h).trail ≡ back_from k h.trail
 unfolding back_all_from back_from drop_all put_all
 back_trail bs o zero h = refl
-back_trail bs o (suc k) h = go (eqb (get_or h.trail.marks k 0) 1) (back_trail bs o k (drop_all bs o k h))
+back_trail bs o (suc k) h = go (is_decision (get_or h.trail.marks k Free)) (back_trail bs o k (drop_all bs o k h))
   where
     go : (b : Bool) → (back_all_from bs o k (drop_all bs o k h)).trail ≡ back_from k (drop_of k h.trail)
-        → (pick b (put_all bs o (neg_ℤ (get_or h.trail.lits k (pos 0))) 2 (drop_all bs o k h)) (back_all_from bs o k (drop_all bs o k h))).trail ≡ pick b (put_of (neg_ℤ (get_or h.trail.lits k (pos 0))) 2 (drop_of k h.trail)) (back_from k (drop_of k h.trail))
+        → (pick b (put_all bs o (neg_ℤ (get_or h.trail.lits k (pos 0))) Flipped (drop_all bs o k h)) (back_all_from bs o k (drop_all bs o k h))).trail ≡ pick b (put_of (neg_ℤ (get_or h.trail.lits k (pos 0))) Flipped (drop_of k h.trail)) (back_from k (drop_of k h.trail))
     go true r = refl
     go false r = r
 
@@ -101,8 +103,8 @@ pub after_full : (g : Rules) (n : ℕ) (s : AssumedEntries) (t : Places) {x : Te
 after_full g n s t e q = step_full g n s t e q
 
 pub after_open : (pool : List ℤ) (rows : List Row) (count n : ℕ) (s : AssumedEntries) (t : Places) (bs : Bodies) (o : Index) (y : Counters) {x : Tested} {l : ℤ} → Formed n pool rows count → FormedSoft n s
-    → x ≡ test_of (rules pool rows count) n s t.value t.len → x ≡ Open l → {t₁ : Places} {y₁ : Counters} → counted_trail t₁ y₁ ≡ put_all bs o (to_z w32 (of_z w32 l)) 1 (counted_trail t y) → stepped (Open l) t₁ ≡ step_of (rules pool rows count) n s t
-after_open pool rows count n s t bs o y {l = l} f w e q z = step_open pool rows count n s t f w e q (ap (λ (h : CountedTrail). h.trail) z ∙ put_trail bs o (to_z w32 (of_z w32 l)) 1 (counted_trail t y))
+    → x ≡ test_of (rules pool rows count) n s t.value t.len → x ≡ Open l → {t₁ : Places} {y₁ : Counters} → counted_trail t₁ y₁ ≡ put_all bs o (to_z w32 (of_z w32 l)) Decision (counted_trail t y) → stepped (Open l) t₁ ≡ step_of (rules pool rows count) n s t
+after_open pool rows count n s t bs o y {l = l} f w e q z = step_open pool rows count n s t f w e q (ap (λ (h : CountedTrail). h.trail) z ∙ put_trail bs o (to_z w32 (of_z w32 l)) Decision (counted_trail t y))
 
 module _ {g : Rules} {o : Index} {t : Places} {y : Counters} (i : Indexed g o) (f : Good t) (k : Tracks g o t.value y) {t₁ : Places} {y₁ : Counters} where
   pub counted_back : counted_trail t₁ y₁ ≡ back_all (bodies g.pool g.rows) o (counted_trail t y) → Tracks g o t₁.value y₁
@@ -112,14 +114,14 @@ module _ {g : Rules} {o : Index} {t : Places} {y : Counters} (i : Indexed g o) (
       let q : y₁ ≡ (back_all (bodies g.pool g.rows) o (counted_trail t y)).counters = ap (λ (h : CountedTrail). h.counters) z in
       rw (p, q) c
 
-  pub counted_push : (l : ℤ) → nat_abs l ≤ 1024 → counted_trail t₁ y₁ ≡ put_all (bodies g.pool g.rows) o l 1 (counted_trail t y) → Tracks g o t₁.value y₁
+  pub counted_push : (l : ℤ) → nat_abs l ≤ 1024 → counted_trail t₁ y₁ ≡ put_all (bodies g.pool g.rows) o l Decision (counted_trail t y) → Tracks g o t₁.value y₁
   counted_push l s z =
-      let c = put_counted g o i l 1 (counted_trail t y) f.value_len s k in
-      let p : t₁.value ≡ (put_all (bodies g.pool g.rows) o l 1 (counted_trail t y)).trail.value = ap (λ (h : CountedTrail). h.trail.value) z in
-      let q : y₁ ≡ (put_all (bodies g.pool g.rows) o l 1 (counted_trail t y)).counters = ap (λ (h : CountedTrail). h.counters) z in
+      let c = put_counted g o i l Decision (counted_trail t y) f.value_len s k in
+      let p : t₁.value ≡ (put_all (bodies g.pool g.rows) o l Decision (counted_trail t y)).trail.value = ap (λ (h : CountedTrail). h.trail.value) z in
+      let q : y₁ ≡ (put_all (bodies g.pool g.rows) o l Decision (counted_trail t y)).counters = ap (λ (h : CountedTrail). h.counters) z in
       rw (p, q) c
 
 pub counted_open : {pool : List ℤ} {rows : List Row} {count n : ℕ} {o : Index} {s : AssumedEntries} {t : Places} {y : Counters} {x : Tested} → Formed n pool rows count → FormedSoft n s → Indexed (rules pool rows count) o → Good t
     → x ≡ test_of (rules pool rows count) n s t.value t.len → Tracks (rules pool rows count) o t.value y → {l : ℤ} → x ≡ Open l
-    → {t₁ : Places} {y₁ : Counters} → counted_trail t₁ y₁ ≡ put_all (bodies pool rows) o (to_z w32 (of_z w32 l)) 1 (counted_trail t y) → Tracks (rules pool rows count) o t₁.value y₁
+    → {t₁ : Places} {y₁ : Counters} → counted_trail t₁ y₁ ≡ put_all (bodies pool rows) o (to_z w32 (of_z w32 l)) Decision (counted_trail t y) → Tracks (rules pool rows count) o t₁.value y₁
 counted_open {pool} {rows} {count} {n} {s = s} {t = t} f w i g e k {l} q z = counted_push i g k (to_z w32 (of_z w32 l)) (open_small pool rows count n s t.value t.len f w e q) z

@@ -8,11 +8,11 @@ use asp::literal;
 use counting::counters::Counters;
 use counting::listed::Listed;
 use counting::weigh;
-use search::trail::Places;
+use search::trail::{Mark, Places};
 use search::value;
 
 // A literal is added, with its mark.
-fn put(g: &Listed<'_>, trail: &mut Places, t: &mut Counters, l: i32, mark: u8)
+fn put(g: &Listed<'_>, trail: &mut Places, t: &mut Counters, l: i32, mark: Mark)
     requires { (trail.old.len < 1024) × (nat_abs l ≤ 1024) }
     ensures { counted_trail trail.new t.new ≡ put_all (bodies_lent g.now.rules) g.now.lists.now l mark (counted_trail trail.old t.old) }
 {
@@ -30,7 +30,7 @@ pub fn push(g: &Listed<'_>, trail: &mut Places, t: &mut Counters, l: i32)
     requires { (trail.old.len < 1024) × (nat_abs l ≤ 1024) }
     ensures { counted_trail trail.new t.new ≡ push_all (bodies_lent g.now.rules) g.now.lists.now l (counted_trail trail.old t.old) }
 {
-    put(g, trail, t, l, 1);
+    put(g, trail, t, l, Mark::Decision);
 }
 
 // The last literal is taken away.
@@ -57,8 +57,8 @@ pub fn back(g: &Listed<'_>, trail: &mut Places, t: &mut Counters)
     while 0 < trail.len {
         let mark = trail.marks[trail.len - 1];
         let l = take(g, trail, t);
-        if mark == 1 {
-            put(g, trail, t, literal::complement(l), 2);
+        if mark.is_decision() {
+            put(g, trail, t, literal::complement(l), Mark::Flipped);
             return;
         }
     }
