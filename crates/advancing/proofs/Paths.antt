@@ -20,6 +20,7 @@ use Rattle.search.specs.Query as words
 use Rattle.search.specs.Machine.{Verdict, open', conflict, wanted, resume}
 use Rattle.search.specs.Machine as machine
 use Rattle.search.specs.declared.trail.Places.{Places}
+use Rattle.search.specs.declared.trail.Mark.TheVariants.{Decision}
 use Rattle.search.specs.Places.{SoundTrail, push_of, back_of, trail_of}
 use Rattle.search.specs.Link.{back_state}
 use Rattle.search.proofs.Search as search
@@ -82,7 +83,7 @@ module _ (S : Source) (s : Search) (d : SoundTrail S.n s.trail) (x : Turned) (a 
     literal = l;
     atom = k.1;
     undecided = k.2;
-    goes_on = going (push_of l t) s.blame e (put_trail l 1 t d.good h);
+    goes_on = going (push_of l t) s.blame e (put_trail l Decision t d.good h);
     blame = ap (λ (y : Search). y.blame) (a ∙ ap (finish_turn S s.phase (bumped s.advances) s.work) e);
   }
 
