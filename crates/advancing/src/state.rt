@@ -29,6 +29,7 @@ impl Phase {
 
 // What the query has blamed: the places of soft literals, newest first, in `core` from `from` on; and, by the order in which the query assumes the soft literals of
 // entries, 1 for a blamed one.
+// Kept: arrays of document 01's limits, here and in `Work`, since nothing takes memory from the heap.
 #[derive(Clone, Copy)]
 pub struct Blame {
     pub flags: [u8; 4096],

@@ -13,6 +13,7 @@ pub struct AtomSet<'a> {
 }
 
 impl AtomSet<'_> {
+    // Kept: the bounds of an atom and of a literal stand in contracts here, as in `literal`.
     pub fn has(self, a: usize) -> bool
         requires { a ≤ 1024 }
         ensures { result ≡ set_of self.entry.bytes.now a }

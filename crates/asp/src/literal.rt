@@ -2,11 +2,13 @@
 ghost use Rattle.std.specs.Prelude.{◌≡◌, ◌+◌, ◌≤◌, pos, neg_ℤ, nat_abs, length};
 ghost use Rattle.asp.specs.Tables.{literals_at};
 
+// Kept: literals and atoms are plain numbers with their bound in contracts, as texts and tables hold them; a type of their own would be put on and taken off at each place.
 // The atom, as an index.
 pub fn atom(l: i32) -> usize
     requires { nat_abs l ≤ 1024 }
     ensures { result ≡ nat_abs l }
 {
+    // Kept: a cast, as there is no `From<u32>` for `usize`.
     l.unsigned_abs() as usize
 }
 
@@ -23,6 +25,7 @@ pub fn positive(a: usize) -> i32
     requires { a ≤ 1024 }
     ensures { result ≡ pos a }
 {
+    // Kept: a cast, as Rattle has no `From` here; the bound stands in the contract, and `try_from` would want an answer for what cannot be.
     a as i32
 }
 

@@ -72,6 +72,7 @@ pub struct Pairs<'a> {
 }
 
 // What a pair counts: a positive literal is looked up in `x`, a negated one in `m`.
+// Kept: the bound of a literal stands in the contract, as in `literal`.
 fn counted(l: i32, w: i32, m: AtomSet<'_>, x: AtomSet<'_>) -> u64
     requires { nat_abs l ≤ 1024 }
     ensures value { result ≡ pair_counts (set_of m.entry.bytes.now) (set_of x.entry.bytes.now) (weighed l w) }

@@ -11,6 +11,7 @@ use search::scan::Rest;
 use search::value::truth;
 
 // What a pair counts where its literal is true.
+// Kept: the bound of a literal stands in five contracts here, as in `asp::literal`.
 fn met_pair(l: i32, w: i32, value: &[u8; 1025]) -> u64
     requires { nat_abs l ≤ 1024 }
     ensures value { result ≡ pair_met value.now (weighed l w) }
@@ -91,6 +92,7 @@ fn owed(body: Pairs<'_>, value: &[u8; 1025]) -> u64
 }
 
 // The same, by the plain sum where no atom has both signs.
+// Kept: `mixed` is what the row's kind says of its body (`BodyKind::is_mixed`), and only chooses between two sums.
 fn least(body: Pairs<'_>, mixed: bool, value: &[u8; 1025]) -> u64
     ensures { result ≡ least_at mixed value.now (pairs_of body.entry.literals.now body.entry.weights.now) }
 {

@@ -69,6 +69,7 @@ fn drop_paid(objective: Objective<'_>, tried: &mut [u8; 1025])
 pub fn tried_first(rules: RuleTable<'_>, objective: Objective<'_>) -> [u8; 1025]
     ensures { (a : ℕ) → set_of result a ≡ tried_first (rules_of rules.entry.pool.now rules.entry.rows.now (length rules.entry.rows.now)) (penalties objective.entry.entries.now) a }
 {
+    // Kept: an array of document 01's size, since nothing here takes memory from the heap.
     let mut tried = [0u8; 1025];
     choose_all(rules, &mut tried);
     drop_paid(objective, &mut tried);

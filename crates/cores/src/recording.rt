@@ -70,6 +70,7 @@ impl LevelTables {
         add(&mut self.softs, self.count, n - 1, self.cores + 1, s);
         append(&mut self.members, from, core);
         self.cores += 1;
+        // Kept: a cast, as Rattle has no `From` here; the bound stands in the contract, and `try_from` would want an answer for what cannot be.
         self.ends[self.cores] = (from + n) as u16;
         self.count += n - 1;
         self.lower += u64::from(s);

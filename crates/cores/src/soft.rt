@@ -28,6 +28,7 @@ impl Soft {
         requires index_bound { index ≤ 4096 }
         ensures { result ≡ core_soft core index weight }
     {
+        // Kept: casts, as Rattle has no `From` here; the bound stands in the contract, and `try_from` would want an answer for what cannot be.
         Soft {
             literal: 0,
             core: core as u16,

@@ -15,6 +15,7 @@ pub struct Marks {
 
 // The numbers, by rule, and the marks.
 #[derive(Clone, Copy)]
+// Kept: arrays of document 01's sizes, since nothing here takes memory from the heap.
 pub struct Counters {
     pub key: [u16; 2048],
     pub marks: Marks,
@@ -85,6 +86,7 @@ impl Marks {
 }
 
 impl Counters {
+    // Kept: the bounds of a rule's number and of an atom stand in contracts, since tables and lists hold them as plain numbers.
     fn lower_at(&mut self, r: usize)
         requires { r < 2048 }
         ensures { self.new ≡ lower_at r self.old }

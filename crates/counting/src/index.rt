@@ -2,6 +2,7 @@
 ghost use Rattle.counting.specs.Shape.{Shape};
 
 // The rules in which a literal is a condition, or an atom is a head (or one that a weighted body names): list i has the places from `starts` at i to `starts` at i + 1 of `rules`.
+// Kept: arrays of the sizes that document 01's limits give, since nothing here takes memory from the heap.
 #[derive(Clone, Copy)]
 pub struct Index {
     pub starts: [u16; 3076],

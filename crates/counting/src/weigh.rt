@@ -195,6 +195,7 @@ fn put_marks(m: Marks, r: usize, old: u16, new: u16) -> Marks
 }
 
 // Rule r has the number k.
+// Kept: the bounds of a rule's number and of an atom stand in contracts, as in `counters`.
 fn put_at(t: &mut Counters, r: usize, k: u16)
     requires { r < 2048 }
     ensures { t.new ≡ put_at r k t.old }

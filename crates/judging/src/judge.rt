@@ -72,11 +72,13 @@ impl<'a> Cores<'a> {
                 n += 1;
             }
         }
+        // Kept: a cast, as Rattle has no `From` here; the bound stands in the contract, and `try_from` would want an answer for what cannot be.
         counts[j] = (n + 1) as u16;
         n
     }
 
     // The first of the places that is violated.
+    // Kept: that places are in the table stands in three contracts, since the places are slices of their own.
     pub fn first_violated(
         &self,
         places: &[u16],

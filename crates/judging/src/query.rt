@@ -29,6 +29,7 @@ pub fn assumed(softs: &[Soft], s: u32, places: &mut [u16; 4096]) -> usize
     let mut n = 0;
     for (i, r) in softs.iter().enumerate() {
         if s <= r.weight {
+            // Kept: a cast, as Rattle has no `From` here; the bound stands in the contract, and `try_from` would want an answer for what cannot be.
             places[n] = i as u16;
             n += 1;
         }

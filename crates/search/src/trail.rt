@@ -21,6 +21,7 @@ impl Mark {
     }
 }
 
+// Kept: arrays, since "a fresh path has 1,024 empty places"; the values are bytes, since they are lent as the set of the atoms that are in (`AtomSet`).
 #[derive(Clone, Copy)]
 pub struct Places {
     pub lits: [i32; 1024],

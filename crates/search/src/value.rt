@@ -5,6 +5,7 @@ ghost use Rattle.search.specs.Places.{side_of, truth_of, truth_at};
 use asp::literal::atom;
 
 // The value of the literal's atom where the literal is true: 1 in, 2 out.
+// Kept: a value and what it makes of a literal are numbers and no enums: they are compared side by side, and by a `match` weighted programs took a third longer (docs/DESIGN-PASS.md).
 pub fn side(l: i32) -> u8
     ensures { result ≡ side_of l }
 {

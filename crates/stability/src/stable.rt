@@ -131,6 +131,7 @@ pub fn is_stable(rules: RuleTable<'_>, m: AtomSet<'_>) -> Stability
     if any_violated(rules, m) {
         return Stability::Violated;
     }
+    // Kept: an array of document 01's size, since nothing here takes memory from the heap.
     let mut x = [0u8; 1025];
     close(rules, m, &mut x);
     if same(m, AtomSet { bytes: &x }, rules.atoms) {
