@@ -3,6 +3,7 @@ ghost use Rattle.std.specs.Prelude.{codes};
 ghost use Rattle.std.specs.Fmt.{WritesOnOk};
 ghost use Rattle.std.specs.List.{repeat};
 
+use planner::look::View;
 use std::fmt;
 
 // Each figure, or priority, after a space.
@@ -22,22 +23,19 @@ impl<T: fmt::Display> fmt::Display for Figures<'_, T> {
     }
 }
 
-// The figures of an upper bound; before there is one, `-` for each of so many levels.
+// The upper bound of a view; before there is one, `-` for each of its levels.
 #[derive(Drop)]
-pub struct UpperBound<'a> {
-    pub costs: Option<&'a [i64]>,
-    pub levels: usize,
-}
+pub struct UpperBound<'a>(pub View<'a>);
 
 impl fmt::Display for UpperBound<'_> {
     ghost use Rattle.console.specs.Print.{upper_text};
 
-    ghost output = { λ u. upper_text u.costs u.levels };
+    ghost output = { λ u. upper_text u.0 };
 
     fn fmt<W: fmt::Write>(&self, f: &mut fmt::Formatter<W>) -> fmt::Result {
-        match self.costs {
+        match self.0.uppers {
             Some(costs) => write!(f, "{}", Figures(costs)),
-            None => dashes(f, self.levels),
+            None => dashes(f, self.0.lowers.len()),
         }
     }
 }

@@ -2,7 +2,7 @@
 // a line for its end. tests/optima.py writes the texts and the expected output: the ends by clasp, the lines of single advances by a model of document 01's machine.
 #![tactic(auto)]
 
-use console::print::{figures, upper_bound};
+use console::print::{Figures, UpperBound};
 use planner::look::{InWork, View};
 use planner::service::{Service, Status};
 use std::io;
@@ -68,9 +68,7 @@ fn state(rt: &impl Print, view: &View) -> io::Result<()> {
     let advances = view.advances;
     let status = view.status;
     let InWork { level, stratum } = view.in_work.unwrap_or_default();
-    print!(rt; " {advances} {status} lower")?;
-    figures(rt, view.lowers)?;
-    rt.print(" upper")?;
-    upper_bound(rt, view.uppers, view.lowers.len())?;
-    println!(rt; " level {level} stratum {stratum}")
+    let lower = Figures(view.lowers);
+    let upper = UpperBound(*view);
+    println!(rt; " {advances} {status} lower{lower} upper{upper} level {level} stratum {stratum}")
 }

@@ -4,7 +4,7 @@
 
 ghost use Rattle.std.specs.Prelude.{◌≡◌, ◌≤◌, IfOk, length};
 
-use console::print::{figures, upper_bound};
+use console::print::{Figures, UpperBound};
 use planner::fill::part;
 use planner::look::View;
 use planner::service::Service;
@@ -120,11 +120,9 @@ fn plan_program(rt: &impl Print, service: &mut Service, budget: u32) -> io::Resu
 // The status and the bounds.
 fn bounds(rt: &impl Print, view: &View) -> io::Result<()> {
     let status = view.status;
-    print!(rt; "{status}\nlower")?;
-    figures(rt, view.lowers)?;
-    rt.print("\nupper")?;
-    upper_bound(rt, view.uppers, view.lowers.len())?;
-    rt.print("\n")
+    let lower = Figures(view.lowers);
+    let upper = UpperBound(*view);
+    println!(rt; "{status}\nlower{lower}\nupper{upper}")
 }
 
 // The shown symbols, in text order; there are at most 512.

@@ -1,6 +1,6 @@
 // The answers of the service, in print.
 use crate::input;
-use console::print::{figures, upper_bound};
+use console::print::{Figures, UpperBound};
 use planner::fill::part;
 use planner::look::{InWork, View};
 use planner::service::{Refusal, Service};
@@ -48,13 +48,11 @@ pub fn look(rt: &impl Print, view: &View) -> io::Result<()> {
     let status = view.status;
     let advances = view.advances;
     let InWork { level, stratum } = view.in_work.unwrap_or_default();
-    print!(rt; "status {status}\nadvances {advances}\npriorities")?;
-    figures(rt, view.priorities)?;
-    rt.print("\nlower")?;
-    figures(rt, view.lowers)?;
-    rt.print("\nupper")?;
-    upper_bound(rt, view.uppers, view.lowers.len())?;
-    println!(rt; "\nlevel {level}\nstratum {stratum}")
+    let priorities = Figures(view.priorities);
+    let lower = Figures(view.lowers);
+    let upper = UpperBound(*view);
+    print!(rt; "status {status}\nadvances {advances}\npriorities{priorities}\n")?;
+    println!(rt; "lower{lower}\nupper{upper}\nlevel {level}\nstratum {stratum}")
 }
 
 pub fn write(rt: &impl Print, service: &Service, room: u32) -> io::Result<()> {

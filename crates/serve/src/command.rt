@@ -1,4 +1,8 @@
 // The commands, by their lines.
+ghost use Rattle.std.specs.Prelude.{◌≡◌, [], unwrap_or, ok_or, option_map};
+ghost use Rattle.console.specs.Number.{number_of};
+ghost use Rattle.serve.specs.Commands.{command_of, with_numbers_of, symbol_of, word_of, rest_of};
+
 use std::fmt;
 
 // Room enough for any answer.
@@ -37,7 +41,9 @@ impl fmt::Display for Mistake {
     }
 }
 
-pub fn parse(line: &[u8]) -> Result<Command, Mistake> {
+pub fn parse(line: &[u8]) -> Result<Command, Mistake>
+    ensures { result ≡ command_of line.now }
+{
     match line {
         b"" => Ok(Command::Nothing),
         b"advance" => Ok(Command::Advance),
@@ -51,7 +57,9 @@ pub fn parse(line: &[u8]) -> Result<Command, Mistake> {
 }
 
 // A command with a number, or two.
-fn with_numbers(line: &[u8]) -> Result<Command, Mistake> {
+fn with_numbers(line: &[u8]) -> Result<Command, Mistake>
+    ensures { result ≡ with_numbers_of (word_of line.now) (unwrap_or (rest_of line.now) []) }
+{
     let (word, rest) = split(line);
     let numbers = rest.unwrap_or(&[]);
     match word {
@@ -75,7 +83,9 @@ fn with_numbers(line: &[u8]) -> Result<Command, Mistake> {
     }
 }
 
-fn symbol(numbers: &[u8]) -> Result<Command, Mistake> {
+fn symbol(numbers: &[u8]) -> Result<Command, Mistake>
+    ensures { result ≡ symbol_of numbers.now }
+{
     let (at, rest) = split(numbers);
     let at = number(at)?;
     let room = match rest {
@@ -85,12 +95,17 @@ fn symbol(numbers: &[u8]) -> Result<Command, Mistake> {
     Ok(Command::Symbol { at, room })
 }
 
-fn number(text: &[u8]) -> Result<u32, Mistake> {
+fn number(text: &[u8]) -> Result<u32, Mistake>
+    ensures { result ≡ ok_or (number_of text.now) Mistake.NoNumber }
+{
     console::number::read(text).ok_or(Mistake::NoNumber)
 }
 
 // What stands before the first space, and what after it, if there is one.
-fn split<'a>(text: &'a [u8]) -> (&'a [u8], Option<&'a [u8]>) {
+fn split<'a>(text: &'a [u8]) -> (&'a [u8], Option<&'a [u8]>)
+    ensures word { result.0.now ≡ word_of text.now }
+    ensures rest { option_map (λ b. b.now) result.1 ≡ rest_of text.now }
+{
     match text.iter().position(|b| *b == b' ') {
         Some(k) => (&text[..k], Some(&text[k + 1..])),
         None => (text, None),
