@@ -8,8 +8,10 @@ use planner::service::{Service, Status};
 use std::io;
 use std::rt::Files;
 
+// Kept: the loop of models's `main`, since a closure over the arguments would be no shorter.
 fn main(rt: HostRuntime) -> io::Result<()> {
     for i in 1..usize::MAX {
+        // Kept: an array, since no program allocates.
         let mut name = [0u8; 64];
         let Some(k) = inputs::argument(&rt, i, &mut name) else {
             return Ok(());
@@ -20,6 +22,7 @@ fn main(rt: HostRuntime) -> io::Result<()> {
 }
 
 fn one_text(rt: &(impl Files + Print), name: &[u8]) -> io::Result<()> {
+    // Kept: an array, since no program allocates.
     let mut bytes = [0u8; 65537];
     let k = inputs::read(rt, name, &mut bytes)?;
     let mut service = Service::fresh();

@@ -4,7 +4,7 @@ use Rattle.console.specs.Number.{number_of}
 use Rattle.serve.specs.declared.command.Command.{Command}
 use Rattle.serve.specs.declared.command.Command.TheVariants.{Nothing, Load, Advance, Run, Look, Write, Model, Symbol, Shown, Clear, Quit}
 use Rattle.serve.specs.declared.command.Mistake.{Mistake}
-use Rattle.serve.specs.declared.command.Mistake.TheVariants.{NotACommand, NoNumber}
+use Rattle.serve.specs.declared.command.Mistake.TheVariants.{LongLine, NotACommand, NoNumber}
 
 -- ---- words
 
@@ -70,3 +70,10 @@ command_of s =
     (if bytes_eq s (codes "quit") then Ok Quit else
     (if bytes_eq s (codes "write") then Ok (Write 4294967295) else
     (if bytes_eq s (codes "model") then Ok (Model 4294967295) else longer_of s))))))
+
+-- ---- mistakes
+
+abbrev pub mistake_text : Mistake → List ℕ
+mistake_text LongLine = codes "the line is longer than 128 bytes"
+mistake_text NotACommand = codes "not a command"
+mistake_text NoNumber = codes "a number from 0 to 4294967295 is due"

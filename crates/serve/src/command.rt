@@ -31,6 +31,11 @@ pub enum Mistake {
 }
 
 impl fmt::Display for Mistake {
+    ghost use Rattle.std.specs.Prelude.{Some};
+    ghost use Rattle.serve.specs.Commands.{mistake_text};
+
+    ghost output = { λ m. Some (mistake_text m) };
+
     fn fmt<W: fmt::Write>(&self, f: &mut fmt::Formatter<W>) -> fmt::Result {
         f.write_str(match self {
             Mistake::LongLine => "the line is longer than 128 bytes",
