@@ -11,4 +11,4 @@ loop-figure-init g c = grind (arith, common_steps)
 pub loop-figure-preserved : goal.loop-figure-preserved
 loop-figure-preserved g c p =
     figure_more g.T.Display.output g.W.Write.write_str_gives c.args.f.now c.loop-figure.f c.write.new.self c.in_ok-write.field-0 c.args.self.now.0.now c.loop-figure.figure-index c.figure-item.result
-      (search rules) c.figure-item.is (c.loop-figure.invariant p) c.in_ok-write.ensures.writes
+    (search rules) c.figure-item.is (c.loop-figure.invariant p) c.in_ok-write.ensures.writes
