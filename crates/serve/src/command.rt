@@ -45,6 +45,7 @@ impl fmt::Display for Mistake {
     }
 }
 
+// By tests, not by patterns of bytes, which tell byte from byte: each test is then a line of the definition.
 pub fn parse(line: &[u8]) -> Result<Command, Mistake>
     ensures { result ≡ command_of line.now }
 {
