@@ -1,1 +1,3 @@
 pub mod Number
+pub mod Print
+pub mod Ending

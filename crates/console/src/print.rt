@@ -1,21 +1,50 @@
 // The service's figures, in print.
-use std::{fmt, io};
+ghost use Rattle.std.specs.Prelude.{codes};
+ghost use Rattle.std.specs.Fmt.{WritesOnOk};
+ghost use Rattle.std.specs.List.{repeat};
+
+use planner::look::View;
+use std::fmt;
 
 // Each figure, or priority, after a space.
-pub fn figures<T: fmt::Display>(rt: &impl Print, figures: &[T]) -> io::Result<()> {
-    for figure in figures {
-        print!(rt; " {figure}")?;
+#[derive(Drop)]
+pub struct Figures<'a, T>(pub &'a [T]);
+
+impl<T: fmt::Display> fmt::Display for Figures<'_, T> {
+    ghost use Rattle.console.specs.Print.{figures_text};
+
+    ghost output = { λ f. figures_text T.output f.0.now };
+
+    fn fmt<W: fmt::Write>(&self, f: &mut fmt::Formatter<W>) -> fmt::Result {
+        for figure in self.0 {
+            write!(f, " {figure}")?;
+        }
+        Ok(())
     }
-    Ok(())
 }
 
-// Each figure of an upper bound after a space; before there is one, `-` for each of so many levels.
-pub fn upper_bound(rt: &impl Print, bound: Option<&[i64]>, levels: usize) -> io::Result<()> {
-    if let Some(costs) = bound {
-        return figures(rt, costs);
+// The upper bound of a view; before there is one, `-` for each of its levels.
+#[derive(Drop)]
+pub struct UpperBound<'a>(pub View<'a>);
+
+impl fmt::Display for UpperBound<'_> {
+    ghost use Rattle.console.specs.Print.{upper_text};
+
+    ghost output = { λ u. upper_text u.0 };
+
+    fn fmt<W: fmt::Write>(&self, f: &mut fmt::Formatter<W>) -> fmt::Result {
+        match self.0.uppers {
+            Some(costs) => write!(f, "{}", Figures(costs)),
+            None => dashes(f, self.0.lowers.len()),
+        }
     }
-    for _ in 0..levels {
-        rt.print(" -")?;
+}
+
+fn dashes<W: fmt::Write>(f: &mut fmt::Formatter<W>, n: usize) -> fmt::Result
+    ensures { WritesOnOk W.write_str_gives f.old result (repeat n (codes " -")) f.new }
+{
+    for _ in 0..n {
+        f.write_str(" -")?;
     }
     Ok(())
 }

@@ -2,20 +2,21 @@
 use mathlib.Core.Path.{◌≡◌, ap, ◌∙◌}
 use mathlib.Core.Logic.{◌⊎◌, inl, inr}
 use mathlib.Core.List.{List, [], ◌∷◌}
-use Prim.Native.Nat.{ℕ, zero, suc, ◌+◌, ◌≤◌, ◌<◌, zero-le}
+use Prim.Native.Nat.{ℕ, zero, suc, ◌≤◌, ◌<◌, zero-le}
 use native.Mathlib.Omega.{arith}
-use lib.IntN.{ℤ, pos, nat_abs}
-use lib.ListN.{length, get_or, take, replicate, length-map, length-replicate, get_or-replicate, get_or-eq_default}
+use lib.IntN.{ℤ, nat_abs}
+use lib.ListN.{length, take, replicate, length-map, length-replicate, get_or-replicate, get_or-eq_default}
 use Rattle.asp.specs.declared.entries.Entry.{Entry}
 use Rattle.asp.specs.Program.{All}
 use Rattle.asp.specs.Cost.{level}
 use Rattle.asp.specs.Penalty.{Penalty, penalty, penalties}
 use Rattle.asp.specs.Tables.{no_entry, entry_at}
 use Rattle.asp.proofs.Penalties.{paid_atom}
-use Rattle.cores.specs.Level.{assumed_from}
+use Rattle.cores.specs.Level.{under, assumed_from}
 use Rattle.cores.specs.declared.soft.Soft.{Soft}
 use Rattle.cores.specs.Tables.{opened_tables, SoundTables}
-use Rattle.cores.specs.Columns.{rests_of, ListedPlaces, listed_places, assumed_of}
+use Rattle.cores.specs.Columns.{literals_of, cores_of, rests_of, ListedPlaces, listed_places, assumed_of, entries_among, Pairs, Paired, paired, entry_columns}
+use Rattle.cores_script.specs.Script.{strata_at}
 use Rattle.cores.proofs.Sums.{below_or}
 use Rattle.std.proofs.lemmas.List.{length-take}
 use Rattle.cores.proofs.Strata.{assumed_length, assumed_heavy}
@@ -63,8 +64,16 @@ module _ (s : ℕ) (ss : List Soft) (ps qs : List ℕ) (n : ℕ) (e : listed_pla
   pub assumed_few : n ≤ length ss
   assumed_few = omega (arith, count_is, assumed_length s 0 (rests_of ss), length-map ss (λ (r : Soft). r.weight))
 
-  pub assumed_inside : length ss ≤ length ps → All (λ m. m < length ss) (take n qs)
-  assumed_inside h =
-      let f : take n qs ≡ assumed_from s 0 (rests_of ss) =
-      ap (λ (l : ListedPlaces). take l.count l.places) e ∙ assumed_front s (rests_of ss) ps (omega (arith, count_is, assumed_few)) in
-      rw f (all_map (assumed_from s 0 (rests_of ss)) (λ m q. omega (arith, q.0, length-map ss (λ (r : Soft). r.weight))) (assumed_heavy s (rests_of ss)))
+  module _ (h : length ss ≤ length ps) where
+    front_is : take n qs ≡ assumed_from s 0 (rests_of ss)
+    front_is = ap (λ (l : ListedPlaces). take l.count l.places) e ∙ assumed_front s (rests_of ss) ps (omega (arith, count_is, assumed_few))
+
+    pub assumed_inside : All (λ m. m < length ss) (take n qs)
+    assumed_inside =
+        rw front_is (all_map (assumed_from s 0 (rests_of ss)) (λ m q. omega (arith, q.0, length-map ss (λ (r : Soft). r.weight))) (assumed_heavy s (rests_of ss)))
+
+    pub strata_is : (m : ℕ) → m ≡ under s (rests_of ss) → (u : Pairs) {t : Pairs} {k : ℕ} → paired t k ≡ entry_columns (literals_of ss) (entries_among (cores_of ss) (take n qs)) u
+        → record { next = m; assumed = n; entries = k } ≡ strata_at s ss
+    strata_is m em u {t} {k} ek =
+        let k_is : k ≡ length (entries_among (cores_of ss) (assumed_from s 0 (rests_of ss))) = ap (λ (q : Paired). q.count) ek ∙ ap (λ l. length (entries_among (cores_of ss) l)) front_is in
+        λ i. record { next = em i; assumed = count_is i; entries = k_is i }

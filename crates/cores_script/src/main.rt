@@ -14,6 +14,7 @@ use world::World;
 
 mod measure;
 mod numbers;
+mod strata;
 mod world;
 
 // One statement of the script.
@@ -21,15 +22,16 @@ fn obey(rt: &impl Print, w: &mut World, op: usize, script: &mut Numbers) -> io::
     ensures { length script.new.rest.now ≤ length script.old.rest.now }
 {
     let a = script.due();
+    let stratum = u32::try_from(a).unwrap_or(u32::MAX);
     match op {
         1 => {
             w.put_entry(a, script);
             Ok(())
         }
         2 => w.open_level(rt, a),
-        3 => w.keep_core(rt, a, script),
+        3 => w.keep_core(rt, stratum, script),
         4 => w.weigh_set(rt, a, script),
-        5 => w.print_strata(rt, a),
+        5 => rt.println(w.strata(stratum)),
         _ => Ok(()),
     }
 }
@@ -44,6 +46,7 @@ fn play(rt: &impl Print, text: &[u8]) -> io::Result<()> {
 }
 
 fn main(rt: HostRuntime) -> io::Result<()> {
+    // Kept: an array, since no program allocates.
     let mut text = [0u8; 65536];
     let n = inputs::fill(&mut rt.stdin(), &mut text)?;
     play(&rt, &text[..n])

@@ -13,6 +13,7 @@ pub fn violated_weight(t: &LevelTables, model: AtomSet<'_>) -> u64
     ensures { result ≡ violated_weight (set_of model.entry.bytes.now) (level_of t.now) }
 {
     let cores = Cores::of(t);
+    // Kept: an array, since no program allocates.
     let mut counts = [0u16; 4097];
     let mut total: u64 = 0;
     for (p, r) in cores.softs.iter().enumerate() {

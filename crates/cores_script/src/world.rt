@@ -1,18 +1,19 @@
 // The tables of a script.
-ghost use Rattle.std.specs.Prelude.{ℕ, ◌≤◌, ◌<◌, ◌↔◌, pos, nat_abs, get_or, length, slice_index, EachIndex, IsTrue};
-ghost use Rattle.asp.specs.Tables.{entry_at};
-ghost use Rattle.cores.specs.Tables.{SoundTables};
+ghost use Rattle.std.specs.Prelude.{◌≡◌, ℕ, ◌≤◌, ◌<◌, ◌↔◌, nat_abs, length, take, replicate, slice_index, EachIndex, IsTrue};
+ghost use Rattle.asp.specs.Tables.{no_entry, entry_at};
+ghost use Rattle.cores.specs.Tables.{empty_tables, SoundTables};
+ghost use Rattle.cores_script.specs.Script.{after_opening, strata_at};
 ghost use Rattle.cores_script.specs.Sound.{sound_prop};
 
 use crate::measure;
 use crate::numbers::Numbers;
+use crate::strata::Strata;
 use asp::atoms::AtomSet;
 use asp::entries::Entry;
 use cores::level::LevelTables;
-use judging::query;
 use std::io;
 
-// Kept: an array with a count beside it, since no program allocates.
+// Kept: an array with a count beside it, and the tables of a level, since no program allocates.
 #[derive(Drop)]
 pub struct World {
     entries: [Entry; 512],
@@ -25,7 +26,11 @@ pub struct World {
 }
 
 impl World {
-    pub fn new() -> Self {
+    pub fn new() -> Self
+        ensures entries { result.entries ≡ replicate 512 no_entry }
+        ensures count { result.count ≡ 0 }
+        ensures tables { result.tables ≡ empty_tables }
+    {
         let free = Entry {
             priority: 0,
             literal: 0,
@@ -59,7 +64,9 @@ impl World {
     }
 
     // The level of a priority is opened.
-    pub fn open_level(&mut self, rt: &impl Print, p: usize) -> io::Result<()> {
+    pub fn open_level(&mut self, rt: &impl Print, p: usize) -> io::Result<()>
+        ensures { self.new.tables ≡ after_opening self.old.tables (take self.old.count self.old.entries) p }
+    {
         if 1000 < p {
             return Ok(());
         }
@@ -68,13 +75,14 @@ impl World {
     }
 
     // A core of n places, which follow, at stratum s.
-    pub fn keep_core(&mut self, rt: &impl Print, s: usize, script: &mut Numbers) -> io::Result<()>
+    pub fn keep_core(&mut self, rt: &impl Print, s: u32, script: &mut Numbers) -> io::Result<()>
         ensures { length script.new.rest.now ≤ length script.old.rest.now }
     {
         let n = script.due();
         if 4096 < n {
             return Ok(());
         }
+        // Kept: an array, since no program allocates.
         let mut places = [0u16; 4096];
         for place in &mut places[..n] {
             *place = u16::try_from(script.due()).unwrap_or(u16::MAX);
@@ -83,7 +91,7 @@ impl World {
     }
 
     // It is recorded, if there is room.
-    fn record(&mut self, rt: &impl Print, s: usize, core: &[u16]) -> io::Result<()>
+    fn record(&mut self, rt: &impl Print, s: u32, core: &[u16]) -> io::Result<()>
         requires { length core.now ≤ 4096 }
     {
         if core.is_empty() || 900000000 < self.tables.lower || 100000000 < s {
@@ -92,7 +100,7 @@ impl World {
         if !all_below(core, self.tables.count) {
             return Ok(());
         }
-        let full = self.tables.try_record(core, s as u32).is_err();
+        let full = self.tables.try_record(core, s).is_err();
         print_tables(rt, full, &self.tables)
     }
 
@@ -100,6 +108,7 @@ impl World {
     pub fn weigh_set(&self, rt: &impl Print, n: usize, script: &mut Numbers) -> io::Result<()>
         ensures { length script.new.rest.now ≤ length script.old.rest.now }
     {
+        // Kept: an array, since no program allocates.
         let mut model = [0u8; 1025];
         for _ in 0..n {
             if let Some(b) = model.get_mut(script.due()) {
@@ -110,15 +119,10 @@ impl World {
     }
 
     // The next stratum below s, how many are assumed at s, and how many of them are an entry's.
-    pub fn print_strata(&self, rt: &impl Print, s: usize) -> io::Result<()> {
-        let s = s.min(1000001) as u32;
-        let softs = self.tables.soft_literals();
-        let mut places = [0u16; 4096];
-        let mut first = [0u16; 4096];
-        let mut wishes = [0i32; 4096];
-        let m = query::assumed(softs, s, &mut places);
-        let k = query::entries(&places[..m], softs, &mut first, &mut wishes);
-        println!(rt; "{} {m} {k}", query::next_stratum(softs, s))
+    pub fn strata(&self, s: u32) -> Strata
+        ensures { result ≡ strata_at s (take self.now.tables.count self.now.tables.softs) }
+    {
+        Strata::of(&self.tables, s)
     }
 }
 

@@ -1,7 +1,8 @@
 // What the programs read, in lent bytes: what a reader gives, an argument, a file by its name.
 #![tactic(auto)]
 
-ghost use Rattle.std.specs.Prelude.{◌≡◌, ◌≤◌, IfOk, IfSome, length};
+ghost use Rattle.std.specs.Prelude.{◌≡◌, ◌≤◌, ◌<◌, IfOk, IfSome, IsUtf8, length, take};
+ghost use Rattle.std.specs.Io.KnownBytes.{Consumes, IsAtEnd};
 
 use std::env::{Env, FillError};
 use std::io::Read;
@@ -9,9 +10,12 @@ use std::rt::Files;
 use std::{fs, io};
 
 // Reads until the bytes are full or the reader has no more, and returns how many it put at their front.
+#[tactic(auto, using(crate::proofs::Filled::filled_more))]
 pub fn fill<R: Read>(from: &mut R, bytes: &mut [u8]) -> io::Result<usize>
     ensures count { IfOk result (λ k. k ≤ length bytes.new) }
     ensures size { length bytes.new ≡ length bytes.old }
+    ensures given { IfOk result (λ k. Consumes (R.remaining from.old) (R.remaining from.new) (take k bytes.new)) }
+    ensures ended { IfOk result (λ k. k < length bytes.new → IsAtEnd (R.remaining from.new)) }
 {
     let mut done: usize = 0;
     while done < bytes.len() {
@@ -37,7 +41,9 @@ pub fn argument(rt: &impl Env, i: usize, bytes: &mut [u8]) -> Option<usize>
 }
 
 // A file, opened to be read. A name that is not UTF-8 is an error.
-pub fn open<R: Files>(rt: &R, name: &[u8]) -> io::Result<R::File> {
+pub fn open<R: Files>(rt: &R, name: &[u8]) -> io::Result<R::File>
+    ensures { IfOk result (λ _. IsUtf8 name.now) }
+{
     match std::str::from_utf8(name) {
         Ok(name) => fs::open(rt, name),
         Err(_) => Err(io::Error::from(io::ErrorKind::InvalidInput)),

@@ -2,14 +2,16 @@
 // a line for its end. tests/optima.py writes the texts and the expected output: the ends by clasp, the lines of single advances by a model of document 01's machine.
 #![tactic(auto)]
 
-use console::print::{figures, upper_bound};
+use console::print::{Figures, UpperBound};
 use planner::look::{InWork, View};
 use planner::service::{Service, Status};
 use std::io;
 use std::rt::Files;
 
+// Kept: the loop of models's `main`, since a closure over the arguments would be no shorter.
 fn main(rt: HostRuntime) -> io::Result<()> {
     for i in 1..usize::MAX {
+        // Kept: an array, since no program allocates.
         let mut name = [0u8; 64];
         let Some(k) = inputs::argument(&rt, i, &mut name) else {
             return Ok(());
@@ -20,6 +22,7 @@ fn main(rt: HostRuntime) -> io::Result<()> {
 }
 
 fn one_text(rt: &(impl Files + Print), name: &[u8]) -> io::Result<()> {
+    // Kept: an array, since no program allocates.
     let mut bytes = [0u8; 65537];
     let k = inputs::read(rt, name, &mut bytes)?;
     let mut service = Service::fresh();
@@ -68,9 +71,7 @@ fn state(rt: &impl Print, view: &View) -> io::Result<()> {
     let advances = view.advances;
     let status = view.status;
     let InWork { level, stratum } = view.in_work.unwrap_or_default();
-    print!(rt; " {advances} {status} lower")?;
-    figures(rt, view.lowers)?;
-    rt.print(" upper")?;
-    upper_bound(rt, view.uppers, view.lowers.len())?;
-    println!(rt; " level {level} stratum {stratum}")
+    let lower = Figures(view.lowers);
+    let upper = UpperBound(*view);
+    println!(rt; " {advances} {status} lower{lower} upper{upper} level {level} stratum {stratum}")
 }

@@ -4,7 +4,7 @@
 
 ghost use Rattle.std.specs.Prelude.{◌≡◌, ◌≤◌, IfOk, length};
 
-use console::print::{figures, upper_bound};
+use console::print::{Figures, UpperBound};
 use planner::fill::part;
 use planner::look::View;
 use planner::service::Service;
@@ -28,6 +28,7 @@ fn answer(rt: &(impl Env + Files + Print), err: &impl Print) -> io::Result<()> {
 
 // The number of advances; none where the argument is not one.
 fn budget(rt: &impl Env) -> Option<u32> {
+    // Kept: an array, since no program allocates.
     let mut word = [0u8; 64];
     match inputs::argument(rt, 2, &mut word) {
         Some(k) => console::number::read(&word[..k]),
@@ -36,6 +37,7 @@ fn budget(rt: &impl Env) -> Option<u32> {
 }
 
 fn plan(rt: &(impl Env + Files + Print), err: &impl Print, budget: u32) -> io::Result<()> {
+    // Kept: an array, since no program allocates.
     let mut name = [0u8; 4096];
     match inputs::argument(rt, 1, &mut name) {
         Some(k) => plan_file(rt, err, &name[..k], budget),
@@ -50,6 +52,7 @@ fn plan_file(
     name: &[u8],
     budget: u32,
 ) -> io::Result<()> {
+    // Kept: an array, since no program allocates.
     let mut text = [0u8; 65537];
     let k = read(rt, err, name, &mut text)?;
     let mut service = Service::fresh();
@@ -79,6 +82,7 @@ fn opened<R: Files>(rt: &R, err: &impl Print, name: &[u8]) -> io::Result<Option<
             return Ok(None);
         }
     };
+    // Kept: an array, since no program allocates.
     let mut none = [0u8; 1];
     if let Err(error) = file.read(&mut none[..0]) {
         unreadable(err, name, error)?;
@@ -97,11 +101,12 @@ fn unreadable(err: &impl Print, name: &[u8], error: io::Error) -> io::Result<()>
 
 // The error in the system's words, without its number.
 fn reason(err: &impl Print, error: io::Error) -> io::Result<()> {
+    // Kept: an array, since no program allocates.
     let mut bytes = [0u8; 320];
     let mut words = Cursor::new(&mut bytes[..]);
     write!(words, "{error}")?;
-    let n = words.position();
-    let text = &bytes[..n.min(320) as usize];
+    let n = usize::try_from(words.position()).unwrap_or(320);
+    let text = &bytes[..n.min(320)];
     match std::str::from_utf8(text) {
         Ok(text) => match text.split_once(" (os error ") {
             Some((words, _number)) => err.print(words),
@@ -120,11 +125,9 @@ fn plan_program(rt: &impl Print, service: &mut Service, budget: u32) -> io::Resu
 // The status and the bounds.
 fn bounds(rt: &impl Print, view: &View) -> io::Result<()> {
     let status = view.status;
-    print!(rt; "{status}\nlower")?;
-    figures(rt, view.lowers)?;
-    rt.print("\nupper")?;
-    upper_bound(rt, view.uppers, view.lowers.len())?;
-    rt.print("\n")
+    let lower = Figures(view.lowers);
+    let upper = UpperBound(*view);
+    println!(rt; "{status}\nlower{lower}\nupper{upper}")
 }
 
 // The shown symbols, in text order; there are at most 512.
@@ -140,6 +143,7 @@ fn symbols(rt: &impl Print, service: &Service) -> io::Result<()> {
 }
 
 fn symbol(rt: &impl Print, service: &Service, i: usize) -> io::Result<()> {
+    // Kept: an array, since no program allocates.
     let mut bytes = [0u8; 64];
     let answer = service.name(i, &mut bytes);
     let Ok(name) = part(answer, &bytes) else {

@@ -1,6 +1,9 @@
 // The answers of the service, in print.
+ghost use Rattle.std.specs.Prelude.{◌≡◌};
+ghost use Rattle.planner.specs.Held.{fresh_service};
+
 use crate::input;
-use console::print::{figures, upper_bound};
+use console::print::{Figures, UpperBound};
 use planner::fill::part;
 use planner::look::{InWork, View};
 use planner::service::{Refusal, Service};
@@ -15,15 +18,24 @@ const MODEL_ROOM: usize = 1024;
 
 const NAME_ROOM: usize = 64;
 
+// A number of a command as one of bytes, or as an index.
+// Kept: a cast, since Rattle has no `From<u32>` for `usize`.
+fn index(n: u32) -> usize
+    ensures { result ≡ n }
+{
+    n as usize
+}
+
 pub fn load(
     rt: &impl Print,
     input: &mut impl Read,
     service: &mut Service,
     size: u32,
 ) -> io::Result<()> {
+    // Kept: an array, since no program allocates; its length by a cast, since Rattle has no `From<u32>` for `usize`.
     let mut bytes = [0u8; TEXT_ROOM as usize];
     let room = size.min(TEXT_ROOM);
-    let k = inputs::fill(input, &mut bytes[..room as usize])?;
+    let k = inputs::fill(input, &mut bytes[..index(room)])?;
     input::skip(input, size - room)?;
     match service.load(&bytes[..k]) {
         Ok(()) => rt.print("loaded\n"),
@@ -39,7 +51,9 @@ pub fn told<T: fmt::Display + Drop>(rt: &impl Print, answer: Result<T, Refusal>)
     }
 }
 
-pub fn clear(rt: &impl Print, service: &mut Service) -> io::Result<()> {
+pub fn clear(rt: &impl Print, service: &mut Service) -> io::Result<()>
+    ensures { service.new.held ≡ fresh_service }
+{
     service.clear();
     rt.print("cleared\n")
 }
@@ -48,18 +62,17 @@ pub fn look(rt: &impl Print, view: &View) -> io::Result<()> {
     let status = view.status;
     let advances = view.advances;
     let InWork { level, stratum } = view.in_work.unwrap_or_default();
-    print!(rt; "status {status}\nadvances {advances}\npriorities")?;
-    figures(rt, view.priorities)?;
-    rt.print("\nlower")?;
-    figures(rt, view.lowers)?;
-    rt.print("\nupper")?;
-    upper_bound(rt, view.uppers, view.lowers.len())?;
-    println!(rt; "\nlevel {level}\nstratum {stratum}")
+    let priorities = Figures(view.priorities);
+    let lower = Figures(view.lowers);
+    let upper = UpperBound(*view);
+    print!(rt; "status {status}\nadvances {advances}\npriorities{priorities}\n")?;
+    println!(rt; "lower{lower}\nupper{upper}\nlevel {level}\nstratum {stratum}")
 }
 
 pub fn write(rt: &impl Print, service: &Service, room: u32) -> io::Result<()> {
+    // Kept: an array, since no program allocates.
     let mut bytes = [0u8; WRITE_ROOM];
-    let lent = &mut bytes[..WRITE_ROOM.min(room as usize)];
+    let lent = &mut bytes[..WRITE_ROOM.min(index(room))];
     let answer = service.write(lent);
     match part(answer, lent) {
         Ok(text) => {
@@ -72,8 +85,9 @@ pub fn write(rt: &impl Print, service: &Service, room: u32) -> io::Result<()> {
 }
 
 pub fn model(rt: &impl Print, service: &Service, room: u32) -> io::Result<()> {
+    // Kept: an array, since no program allocates.
     let mut bytes = [0u8; MODEL_ROOM];
-    let lent = &mut bytes[..MODEL_ROOM.min(room as usize)];
+    let lent = &mut bytes[..MODEL_ROOM.min(index(room))];
     let answer = service.model(lent);
     match part(answer, lent) {
         Ok(atoms) => digits(rt, atoms),
@@ -91,9 +105,10 @@ fn digits(rt: &impl Print, atoms: &[u8]) -> io::Result<()> {
 }
 
 pub fn symbol(rt: &impl Print, service: &Service, at: u32, room: u32) -> io::Result<()> {
+    // Kept: an array, since no program allocates.
     let mut bytes = [0u8; NAME_ROOM];
-    let lent = &mut bytes[..NAME_ROOM.min(room as usize)];
-    let answer = service.name(at as usize, lent);
+    let lent = &mut bytes[..NAME_ROOM.min(index(room))];
+    let answer = service.name(index(at), lent);
     match part(answer, lent) {
         Ok(name) => {
             let size = name.len();
@@ -106,7 +121,7 @@ pub fn symbol(rt: &impl Print, service: &Service, at: u32, room: u32) -> io::Res
 }
 
 pub fn shown(rt: &impl Print, service: &Service, at: u32) -> io::Result<()> {
-    match service.shown(at as usize) {
+    match service.shown(index(at)) {
         Ok(true) => rt.print("shown 1\n"),
         Ok(false) => rt.print("shown 0\n"),
         Err(refusal) => println!(rt; "{refusal}"),

@@ -4,6 +4,7 @@ use std::io::Read;
 
 // The next byte; none at the end.
 fn next_byte(input: &mut impl Read) -> io::Result<Option<u8>> {
+    // Kept: an array, since no program allocates.
     let mut one = [0u8; 1];
     let n = inputs::fill(input, &mut one)?;
     Ok((n == 1).then_some(one[0]))

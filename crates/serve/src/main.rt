@@ -29,6 +29,7 @@ fn attend(rt: &impl Print, input: &mut impl Read) -> io::Result<()> {
 
 // The next line's command; at the end of the input, to quit.
 fn next_command(input: &mut impl Read) -> io::Result<Result<Command, Mistake>> {
+    // Kept: an array, since no program allocates.
     let mut bytes = [0u8; 128];
     Ok(match input::read_line(input, &mut bytes)? {
         None => Ok(Command::Quit),
