@@ -1,18 +1,23 @@
 // A ground program as an optimization reads it, lent: its rules and levels, and what is prepared for them.
-ghost use Rattle.advancing.specs.Source.{source, levels_lent, Prepared};
+ghost use Rattle.advancing.specs.Source.{levels_lent, FormedLevels, Prepared};
+ghost use Rattle.optimizer.specs.Tables.{source_by};
+ghost use Rattle.optimizer.specs.Alone.{formed_levels-prop};
 
 use crate::prepare::Preparation;
 use asp::cost::Objective;
-use asp::rules::Row;
+use asp::rules::RuleTable;
 
-// The atoms are 1 to `atoms`; the first `rules` rows are rules.
+// An objective within document 01's limits: levels, entries, and the weight of each.
+#[derive(Clone, Copy)]
+pub struct Limited<'a> {
+    pub objective: Objective<'a>,
+    pub ghost formed: { FormedLevels (levels_lent objective) } by { formed_levels-prop (levels_lent objective) },
+}
+
 #[derive(Clone, Copy)]
 pub struct Ground<'a> {
-    pub atoms: usize,
-    pub pool: &'a [i32],
-    pub rows: &'a [Row],
-    pub rules: usize,
-    pub objective: Objective<'a>,
+    pub rules: RuleTable<'a>,
+    pub limited: Limited<'a>,
     pub prepared: &'a Preparation,
-    ghost ready: { Prepared (source atoms pool.now rows.now rules (levels_lent objective)) prepared.now.conditions prepared.now.heads prepared.now.tried },
+    ghost ready: { Prepared (source_by rules limited.objective) prepared.now.conditions prepared.now.heads prepared.now.tried },
 }

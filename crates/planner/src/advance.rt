@@ -6,7 +6,8 @@ ghost use Rattle.planner.specs.Calls.{outcome, says, moved_to, advance_call, cou
 
 use crate::service::{Loaded, Refusal, Service, Status};
 use asp::cost::Objective;
-use optimizer::ground::Ground;
+use asp::rules::RuleTable;
+use optimizer::ground::{Ground, Limited};
 
 // How many advances were made, and the status after them.
 #[derive(Clone, Copy, PartialEq, Eq, Debug)]
@@ -23,17 +24,20 @@ impl Loaded {
     {
         let counts = self.stored.counts;
         let ground = Ground {
-            atoms: counts.atoms,
-            pool: &self.stored.pool,
-            rows: &self.stored.rules,
-            rules: counts.rules,
-            objective: Objective {
-                levels: &self.stored.levels[..counts.levels],
-                entries: &self.stored.entries[..counts.entries],
+            rules: RuleTable {
+                atoms: counts.atoms,
+                pool: &self.stored.pool,
+                rows: &self.stored.rules[..counts.rules],
+            },
+            limited: Limited {
+                objective: Objective {
+                    levels: &self.stored.levels[..counts.levels],
+                    entries: &self.stored.entries[..counts.entries],
+                },
             },
             prepared: &self.prepared,
         };
-        let made = optimizer::run::run(&ground, &mut self.search, budget);
+        let made = ground.run(&mut self.search, budget);
         Count {
             made,
             status: Status::from(self.search.phase),
