@@ -1,5 +1,5 @@
 -- The tables that an optimization reads hold the program of the stored text: they are well formed, and rules, levels and costs are the program's. Assumes nothing.
-use mathlib.Core.Path.{◌≡◌, refl, sym, ap, ◌∙◌}
+use mathlib.Core.Path.{◌≡◌, refl, sym, ap, ◌∙◌, subst}
 use mathlib.Core.List.{List, [], ◌∷◌, map}
 use Prim.Native.Nat.{ℕ, zero, suc, ◌+◌, ◌*◌, ◌≤◌, ◌<◌}
 use native.Mathlib.Omega.{arith}
@@ -10,8 +10,11 @@ use lib.ListN.{length, get_or, take, drop}
 use lib.Seq.{drop-cons, get_or-take, length-take-le}
 use Rattle.asp.specs.declared.entries.Entry.{Entry}
 use Rattle.asp.specs.declared.rules.Row.{Row}
+use Rattle.asp.specs.declared.rules.RuleTable.{RuleTable}
+use Rattle.asp.specs.declared.cost.Objective.{Objective}
 use Rattle.asp.specs.Sets.{Set}
-use Rattle.asp.specs.Program.{Symbol, All, LiteralIn, atoms}
+use Rattle.asp.specs.Program.{Symbol, Rule, All, LiteralIn, atoms}
+use Rattle.asp.specs.Stable.{Stable}
 use Rattle.asp.specs.Cost.{level, levels, weight, total, W, cost, costs, start, starts}
 use Rattle.asp.specs.Tables.{span, no_entry, no_row, row_at, rule_at, rules_of, Formed, symbol_row, symbol_at, condition_at}
 use Rattle.asp.specs.Paying.{SymbolFormed}
@@ -20,8 +23,9 @@ use Rattle.cores.proofs.Spans.{get_d_span, span_ext}
 use Rattle.aspif.specs.Store.{stored_program, WellFormed}
 use Rattle.aspif_tables.specs.declared.table.Stored.{Stored}
 use Rattle.aspif_lines.proofs.Spans.{span_same}
-use Rattle.advancing.specs.Source.{many, entries_in, level_at, start_at, levels_in, rules_in, rule_tables, FormedLevels, FormedSource}
-use Rattle.advancing.specs.Facts.{costs_in, weight_in}
+use Rattle.advancing.specs.Source.{many, entries_in, level_at, start_at, levels_in, rules_in, rule_tables, levels_lent, FormedLevels, FormedSource}
+use Rattle.optimizer.specs.Tables.{source_by}
+use Rattle.advancing.specs.Facts.{Model, costs_in, weight_in}
 use Rattle.aspif_lines.specs.Text.{sum, rule_size}
 use Rattle.indexing.specs.Sorting.{Readied}
 use Rattle.indexing.proofs.Indexing.{ready}
@@ -126,6 +130,13 @@ module _ (p : Stored) (w : WellFormed p) where
   pub atoms_is : (source_of p).n ≡ atoms (stored_program p)
   atoms_is = w.atoms
 
+  -- stable models of the one are stable models of the other
+  pub model_stable : {M : Set} → Model (source_of p) M → Stable (stored_program p).rules M
+  model_stable {M} m = subst (λ (rs : List Rule). Stable rs M) rules_is m
+
+  pub stable_model : {M : Set} → Stable (stored_program p).rules M → Model (source_of p) M
+  stable_model {M} m = subst (λ (rs : List Rule). Stable rs M) (sym rules_is) m
+
   pub priorities_is : take p.counts.levels p.levels ≡ (stored_program p).priorities
   priorities_is = sym (span_take (pos 0) p.levels p.counts.levels levels_reach)
 
@@ -168,3 +179,8 @@ module _ (p : Stored) (w : WellFormed p) where
               (span_at (λ (j : ℕ). symbol_at p.text p.conditions (symbol_row p.symbols j)) (λ (s : Symbol). All (LiteralIn p.counts.atoms) s.condition) 0 p.counts.symbols
               w.named.symbols i (omega arith) (omega arith));
         }
+
+-- ---- what is lent of the tables is what the optimization reads
+
+pub lent_is : (p : Stored) (r : RuleTable) (o : Objective) → r.atoms ≡ p.counts.atoms → r.pool.now ≡ p.pool → r.rows.now ≡ take p.counts.rules p.rules → levels_lent o ≡ (source_of p).levels → source_by r o ≡ source_of p
+lent_is p r o a b c d = rw (a, b, c, d)

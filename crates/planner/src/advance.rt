@@ -5,9 +5,8 @@ ghost use Rattle.planner.specs.Sound.{Sound};
 ghost use Rattle.planner.specs.Calls.{outcome, says, moved_to, advance_call, count_of, made, ran, run_call};
 
 use crate::service::{Loaded, Refusal, Service, Status};
-use asp::cost::Objective;
-use asp::rules::RuleTable;
-use optimizer::ground::{Ground, Limited};
+use crate::tables;
+use optimizer::ground::Ground;
 
 // How many advances were made, and the status after them.
 #[derive(Clone, Copy, PartialEq, Eq, Debug)]
@@ -22,19 +21,9 @@ impl Loaded {
         ensures moved { self.new ≡ moved_to self.old (ran self.old budget) }
         ensures count { result ≡ count_of (made self.old budget) (status_of (ran self.old budget).phase) }
     {
-        let counts = self.stored.counts;
         let ground = Ground {
-            rules: RuleTable {
-                atoms: counts.atoms,
-                pool: &self.stored.pool,
-                rows: &self.stored.rules[..counts.rules],
-            },
-            limited: Limited {
-                objective: Objective {
-                    levels: &self.stored.levels[..counts.levels],
-                    entries: &self.stored.entries[..counts.entries],
-                },
-            },
+            rules: tables::rules(&self.stored),
+            limited: tables::limited(&self.stored),
             prepared: &self.prepared,
         };
         let made = ground.run(&mut self.search, budget);
