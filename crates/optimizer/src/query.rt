@@ -6,7 +6,7 @@ ghost use Rattle.optimizer.specs.Tables.{source_by};
 ghost use Rattle.optimizer.specs.Alone.{ready_query-prop};
 
 use crate::ground::Ground;
-use crate::turn::Steps;
+use crate::turn::{Steps, Walk};
 use advancing::state::{Blame, Work};
 use indexing::fill;
 use judging::judge::Cores;
@@ -48,7 +48,13 @@ impl Query<'_> {
             &self.ground.prepared.conditions,
             &trail.value,
         );
-        self.turns(blame, trail, &mut counters, budget)
+        let mut walk = Walk {
+            query: *self,
+            blame,
+            trail,
+            counters: &mut counters,
+        };
+        walk.turns(budget)
     }
 }
 
