@@ -82,7 +82,7 @@ lent_query t a b c level s lowers = rw (a, b, c)
 -- ---- the records that are lent, and the fronts, are the query that stands
 
 module _ (t : LevelTables) (f : FormedTables t) (s : ℕ) {ss : List Soft} {es ms : List ℕ} (a : ss ≡ take t.count t.softs) (b : es ≡ take (t.cores + 1) t.ends) (d : ms ≡ take (held_in t) t.members)
-  {qs : List ℕ} {m : ℕ} (e : listed_places qs m ≡ assumed_of s (rests_of ss) (replicate 4096 0)) where
+    {qs : List ℕ} {m : ℕ} (e : listed_places qs m ≡ assumed_of s (rests_of ss) (replicate 4096 0)) where
   lent_rests : length (rests_of ss) ≤ 4096
   lent_rests = rests_few ss (lent_few t f a)
 
@@ -95,7 +95,7 @@ module _ (t : LevelTables) (f : FormedTables t) (s : ℕ) {ss : List Soft} {es m
       subst (λ (xs : List ℕ). All (λ (m : ℕ). m < length ss) xs) (sym (assumed_is s (rests_of ss) lent_rests e)) (softs_inside ss _ lent.assumed_in_lem)
 
   module _ {ps : List ℕ} {os : List ℤ} {k : ℕ}
-    (e₂ : paired (pairs ps os) k ≡ entry_columns (literals_of ss) (entries_among (cores_of ss) (take m qs)) (pairs (replicate 4096 0) (replicate 4096 (pos 0)))) where
+      (e₂ : paired (pairs ps os) k ≡ entry_columns (literals_of ss) (entries_among (cores_of ss) (take m qs)) (pairs (replicate 4096 0) (replicate 4096 (pos 0)))) where
     pub spots_end : k ≤ length ps
     spots_end = spots_reach s (rests_of ss) lent_rests e (literals_of ss) (cores_of ss) e₂
 

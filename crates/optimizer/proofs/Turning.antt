@@ -133,10 +133,11 @@ module _ {S : Source} {q : QueryTables} {budget : ℕ} {t₀ : Places} {b₀ : B
       shift : (y : Turns) → turns y.turned (made + 1 + y.made) ≡ turns y.turned (made + suc y.made)
       shift y = let z : made + 1 + y.made ≡ made + suc y.made = omega arith in rw z
 
-  pub turns_out : made < budget → {x : Turn} {t₁ : Places} {b₁ : Blame} → turned x t₁ b₁ ≡ turn_of S q t b → {g : Bool} → g ≡ is_going x → g ≡ false → turns (turned x t₁ b₁) (made + 1) ≡ turns_of S q budget t₀ b₀
-  turns_out h {x} {t₁} {b₁} e f p =
+  pub turns_out : made < budget → {x : Turn} {t₁ : Places} {b₁ : Blame} → turned x t₁ b₁ ≡ turn_of S q t b → {g : Bool} → g ≡ is_going x → g ≡ false → {m : ℕ} → m ≡ made + 1
+      → turns (turned x t₁ b₁) m ≡ turns_of S q budget t₀ b₀
+  turns_out h {x} {t₁} {b₁} e f p n =
       let u : turns_of S q (budget - made) t b ≡ turns (turned x t₁ b₁) 1 = more h ∙ rw (← e, ← f, p) in
-      ap (plus made) (sym u) ∙ k.rest
+      ap (turns (turned x t₁ b₁)) n ∙ ap (plus made) (sym u) ∙ k.rest
 
   pub turns_done : budget ≤ made → turns (turned Going t b) budget ≡ turns_of S q budget t₀ b₀
   unfolding turns_of

@@ -77,7 +77,8 @@ impl Limited<'_> {
         ensures { result ≡ costs_of (levels_lent self.now.objective) value.now }
     {
         let mut figures = [0i64; 8];
-        self.objective.level_costs(AtomSet { bytes: value }, &mut figures);
+        self.objective
+            .level_costs(AtomSet { bytes: value }, &mut figures);
         figures
     }
 
@@ -118,13 +119,7 @@ impl Limited<'_> {
 
     // The end of a query on a level. With a model: that is the best if it is cheaper, and the stratum falls. Without one: the core is recorded, and the lower bound rises;
     // or the tables are full.
-    fn finish_level(
-        &self,
-        w: &mut Work,
-        core: &[u16],
-        value: &[u8; 1025],
-        turn: Turn,
-    ) -> Phase
+    fn finish_level(&self, w: &mut Work, core: &[u16], value: &[u8; 1025], turn: Turn) -> Phase
         requires level { w.old.level < length self.now.objective.levels.now }
         requires tables { FormedTables w.old.tables }
         requires core { turn ≡ Turn.Without → ReadyCore w.old core.now }

@@ -11,7 +11,7 @@ use asp::rules::RuleTable;
 #[derive(Clone, Copy)]
 pub struct Limited<'a> {
     pub objective: Objective<'a>,
-    pub ghost formed: { FormedLevels (levels_lent objective) } by { formed_levels-prop (levels_lent objective) },
+    pub ghost formed: { FormedLevels (levels_lent objective) } by { formed_levels-prop _ },
 }
 
 #[derive(Clone, Copy)]

@@ -24,7 +24,7 @@ pub struct Query<'a> {
     pub spots: &'a [u16],
     pub assumed: &'a [u16],
     pub cores: Cores<'a>,
-    ghost ready: { ReadyQuery (source_by ground.rules ground.limited.objective) (query_tables level lowers.now wished.now spots.now assumed.now (tables_of cores)) } by { ready_query-prop (source_by ground.rules ground.limited.objective) (query_tables level lowers.now wished.now spots.now assumed.now (tables_of cores)) },
+    ghost ready: { ReadyQuery (source_by ground.rules ground.limited.objective) (query_tables level lowers.now wished.now spots.now assumed.now (tables_of cores)) } by { ready_query-prop _ _ },
 }
 
 impl Query<'_> {
@@ -68,13 +68,7 @@ impl Ground<'_> {
     ghost use Rattle.optimizer.specs.Lent.{source_lent};
 
     // Steps of the query that stands at the level, with its tables and its stratum.
-    pub fn run_query(
-        &self,
-        w: &Work,
-        blame: &mut Blame,
-        trail: &mut Places,
-        budget: u32,
-    ) -> Steps
+    pub fn run_query(&self, w: &Work, blame: &mut Blame, trail: &mut Places, budget: u32) -> Steps
         requires ready_query { ReadyQuery (source_lent self.now) (work_query w.now) }
         requires good_blame { GoodBlame (work_query w.now) blame.old }
         requires sound_trail { SoundTrail self.now.rules.atoms trail.old }

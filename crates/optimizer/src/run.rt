@@ -5,7 +5,7 @@ ghost use Rattle.advancing.specs.Source.{levels_lent};
 ghost use Rattle.advancing.specs.Turn.{blamed_of};
 ghost use Rattle.advancing.specs.State.{fresh_blame, fresh_search, fresh_for};
 ghost use Rattle.advancing.specs.Finish.{finish_of};
-ghost use Rattle.advancing.specs.Advance.{ended_query};
+ghost use Rattle.advancing.specs.Advance.{ended_query, advance_of};
 ghost use Rattle.advancing.specs.Ready.{ReadyCore};
 ghost use Rattle.advancing.specs.Run.{after_run, Reached, run_of};
 ghost use Rattle.optimizer.specs.Lent.{source_lent};
@@ -73,7 +73,7 @@ impl Limited<'_> {
 }
 
 impl Ground<'_> {
-    // Advances until the status is not running or `budget` are made: how many were made. "An advance after the end does nothing and isn't counted."
+    // Advances until the status is not running or `budget` are made: how many were made.
     pub fn run(&self, s: &mut Search, budget: u32) -> u32
         requires { Reached (source_lent self.now) s.old }
         ensures { after_run s.new result ≡ run_of (source_lent self.now) budget s.old }
@@ -92,5 +92,13 @@ impl Ground<'_> {
             self.limited.end_query(s, steps.turn);
         }
         made
+    }
+
+    // One advance. "An advance after the end does nothing and isn't counted."
+    pub fn advance(&self, s: &mut Search)
+        requires { Reached (source_lent self.now) s.old }
+        ensures { s.new ≡ advance_of (source_lent self.now) s.old }
+    {
+        self.run(s, 1);
     }
 }

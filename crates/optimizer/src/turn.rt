@@ -23,8 +23,8 @@ pub struct Walk<'a> {
     pub blame: &'a mut Blame,
     pub trail: &'a mut Places,
     pub counters: &'a mut Counters,
-    ghost good_blame: { GoodBlame (query_lent query) blame.now } by { good_blame-prop (query_lent query) blame.now },
-    ghost sound_trail: { SoundTrail query.ground.rules.atoms trail.now } by { sound_trail-prop query.ground.rules.atoms trail.now },
+    ghost good_blame: { GoodBlame (query_lent query) blame.now } by { good_blame-prop _ _ },
+    ghost sound_trail: { SoundTrail query.ground.rules.atoms trail.now } by { sound_trail-prop _ _ },
     ghost equipped: { EquippedFor query.ground trail.now.value counters.now },
 }
 

@@ -1,6 +1,4 @@
 use mathlib.Core.Path.{sym, ap, ◌∙◌, subst}
-use Prim.Native.Nat.{◌≤◌}
-use lib.ListN.{length}
 use Rattle.cores.proofs.Lent.{cut_long}
 use Rattle.optimizer.specs.Lent.{source_lent}
 use Rattle.advancing.specs.Turn.{QueryTables, turns_of}

@@ -1,4 +1,4 @@
-use Rattle.std.proofs.Common.{sym, ap, ◌∙◌, subst}
+use Rattle.std.proofs.Common.{sym, subst}
 use Rattle.advancing.specs.Source.{Source, Prepared}
 use Rattle.advancing.specs.Run.{Reached}
 use Rattle.planner.proofs.Known.{known_formed, known_reached, known_prepared}

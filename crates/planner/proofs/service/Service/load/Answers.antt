@@ -1,6 +1,6 @@
 use Rattle.std.proofs.Common.{sym, ap, ◌∙◌, subst, rules}
 use Rattle.indexing.specs.Sorting.{Readied}
-use Rattle.advancing.specs.Source.{Source, Levels, rule_tables, Prepared}
+use Rattle.advancing.specs.Source.{Source, rule_tables, Prepared}
 use Rattle.advancing.specs.State.{fresh_for}
 use Rattle.planner.proofs.Kept.{loaded_sound}
 use Rattle.planner.proofs.Link.{lent_is, readied}
