@@ -11,7 +11,7 @@ use Rattle.asp.specs.declared.cost.Objective.{Objective}
 use Rattle.asp.specs.Paying.{EntriesFormed}
 use Rattle.search.specs.Scan.{Rules, rules}
 use Rattle.choosing.specs.First.{tried_first}
-use Rattle.counting.specs.declared.counters.Index.{Index}
+use Rattle.counting.specs.declared.index.Index.{Index}
 use Rattle.indexing.specs.Sorting.{Readied}
 use Rattle.indexing.specs.Leaf.{Indexes}
 

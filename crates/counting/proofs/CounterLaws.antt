@@ -9,10 +9,10 @@ use lib.ListN.{length, get_or, set, length-set}
 use borrow.Author.Tests.{lt-ltb, le-ltb, ltb-false, eq-eqb, ne_eqb}
 use Rattle.asp.specs.Sets.{pick}
 use Rattle.counting.specs.declared.counters.Marks.{Marks}
-use Rattle.counting.specs.declared.counters.Index.{Index}
+use Rattle.counting.specs.declared.index.Index.{Index}
 use Rattle.counting.specs.Moves.{RowReadable, ListReadable}
 use Rattle.counting.specs.declared.counters.Counters.{Counters}
-use Rattle.counting.specs.Counters.{index, Shaped, counters, marks, plus_one, least, lower_marks, raise_marks, freed_marks, freed, lower_at, raise_at, lower_from, raise_from, first, list_length, shift_of, decide_of, release_of, broken_after, put_marks, put_at, renew_at, is_named, Bodies, number_of, weigh_from, weigh_of}
+use Rattle.counting.specs.Counters.{counters, marks, plus_one, least, lower_marks, raise_marks, freed_marks, freed, lower_at, raise_at, lower_from, raise_from, first, list_length, shift_of, decide_of, release_of, broken_after, put_marks, put_at, renew_at, is_named, Bodies, number_of, weigh_from, weigh_of}
 
 pub more_one : (k : ℕ) → k < 65535 → k + 1 ≡ plus_one k
 more_one k h = rw (lt-ltb k 65535 h)
@@ -168,20 +168,6 @@ rule_small rs h e q = rw q (h e)
 
 -- ---- two lists
 
-module _ {s rs : List ℕ} where
-  pub place_in : Shaped (index s rs) → (i : ℕ) → i < 2051 → i < length s
-  place_in f i h = omega (arith, f.long)
-
-  pub end_in : Shaped (index s rs) → (i : ℕ) {x : ℕ} → x ≡ get_or s i 0 → x ≤ length rs
-  end_in f i q = rw q (f.inside i)
-
-  pub rules_small : Shaped (index s rs) → (e : ℕ) → get_or rs e 0 < 2048
-  rules_small f e = f.small e
-
-module _ (rs : List ℕ) (a k : ℕ) (key : List ℕ) (m : Marks) {key₁ : List ℕ} {m₁ : Marks} where
-  pub lowered_long : counters key₁ m₁ ≡ lower_from rs a k (counters key m) → length key ≡ 2048 → length key₁ ≡ 2048
-  lowered_long q h = ap (λ (t : Counters). length t.key) q ∙ lower_all_len rs a k (counters key m) ∙ h
-
 module _ (o : Index) (down up : ℕ) where
   pub shifted : {a b : ℕ} → a ≡ get_or o.starts down 0 → b ≡ get_or o.starts (down + 1) 0
       → (t : Counters) {t₁ t₂ : Counters} → t₁ ≡ lower_from o.rules a (b - a) t → t₂ ≡ raise_from o.rules (first o up) (list_length o up) t₁ → t₂ ≡ shift_of o down up t
@@ -231,10 +217,6 @@ decide_len o a s t = go (eqb s 1)
     go : (d : Bool) → length (pick d (shift_of o (a * 2) (a * 2 + 1) t) (shift_of o (a * 2 + 1) (a * 2) t)).key ≡ length t.key
     go true = shift_len o (a * 2) (a * 2 + 1) t
     go false = shift_len o (a * 2 + 1) (a * 2) t
-
-module _ (s rs key : List ℕ) (m : Marks) (a y : ℕ) where
-  pub released_long : length key ≡ 2048 → {key₁ : List ℕ} {m₁ : Marks} → counters key₁ m₁ ≡ release_of (index s rs) a y (counters key m) → length key₁ ≡ 2048
-  released_long f q = ap (λ (t : Counters). length t.key) q ∙ release_len (index s rs) a y (counters key m) ∙ f
 
 module _ (o : Index) (a s : ℕ) where
   pub assigned : {t₁ t₂ t₃ : Counters} → t₂ ≡ decide_of o a s t₁ → t₁ ≡ t₃ → t₂ ≡ decide_of o a s t₃

@@ -20,7 +20,7 @@ use Rattle.search.specs.declared.scan.Rest.TheVariants.{All, One, Off}
 use Rattle.search.specs.Scan.{Rules, row_of, head_rest, weighted_rest}
 use Rattle.search.specs.Branch.{DecidedBelow}
 use Rattle.search.proofs.PlacesLaws.{good_drop}
-use Rattle.counting.specs.declared.counters.Index.{Index}
+use Rattle.counting.specs.declared.index.Index.{Index}
 use Rattle.counting.specs.declared.counters.Counters.{Counters}
 use Rattle.counting.specs.Counters.{least, freed, first, list_length, lower_from, shift_of, decide_of, release_of, rest_number, weigh_number, Bodies, bodies, weigh_from, weigh_of}
 use Rattle.counting.specs.Moves.{CountedTrail, put_all, drop_all, back_all_from}

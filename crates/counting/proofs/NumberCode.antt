@@ -21,8 +21,15 @@ use Rattle.search.specs.declared.scan.Rest.TheVariants.{All, One, Off}
 use Rattle.search.specs.Scan.{cond_at, meet_of, meets, head_conditions, head_rest, weighted_rest}
 use Rattle.search.specs.Weigh.{met_at, breaker_of, body_rest, both_rest}
 use Rattle.search.proofs.ScanLaws.{off_stays}
-use Rattle.counting.specs.Counters.{index, rest_number, weigh_number, open_at, bodies}
-use Rattle.counting.specs.Moves.{RowWeighs, RowReadable, ListReadable, Fit}
+use Rattle.asp.specs.declared.rules.RuleTable.{RuleTable}
+use Rattle.search.specs.Scan.{Readable}
+use Rattle.search.specs.Lent.{rules_lent}
+use Rattle.counting.specs.declared.index.Index.{Index}
+use Rattle.counting.specs.Counters.{rest_number, weigh_number, open_at}
+use Rattle.counting.specs.Counts.{Indexed}
+use Rattle.counting.specs.Moves.{RowWeighs, ListReadable}
+use Rattle.counting.specs.Lent.{bodies_lent}
+use Rattle.counting.proofs.Weighing.{indexed_weighable}
 
 module _ (pool : List ℤ) (row : Row) where
   -- ---- the head
@@ -134,19 +141,13 @@ met_next v {ls} {ws} {met} {i} f c h l em =
 
 -- ---- the list of an atom
 
-module _ {pool : List ℤ} {rows : List Row} {starts rules v key : List ℕ} (f : Fit (bodies pool rows) (index starts rules) v key) where
-  pub list_readable : {a x y : ℕ} → a ≤ 1024 → x ≡ get_or starts (2050 + a) 0 → y ≡ get_or starts (2050 + a + 1) 0 → ListReadable (bodies pool rows) rules x y
-  list_readable {a} {x} {y} h ex ey = record {
-    inside = rw ey (f.shaped.inside (2050 + a + 1));
-    small = f.shaped.small;
-    each = λ e p q. f.weighable.each a e h (omega arith) (omega arith);
+module _ (rules : RuleTable) {o : Index} (i : Indexed (rules_lent rules) o) where
+  pub list_readable : Readable (rules_lent rules) → {a x y : ℕ} → a ≤ 1024 → x ≡ get_or o.starts (2050 + a) 0 → y ≡ get_or o.starts (2050 + a + 1) 0 → ListReadable (bodies_lent rules) o.rules x y
+  list_readable f {a} {x} {y} h ex ey = record {
+    inside = rw ey (i.shaped.inside (2050 + a + 1));
+    small = i.shaped.small;
+    each = λ e p q. (indexed_weighable i f).each a e h (omega arith) (omega arith);
   }
-
-  pub start_inside : {a : ℕ} → a ≤ 1024 → 2050 + a < length starts
-  start_inside h = omega (arith, f.shaped.long)
-
-  pub next_inside : {a : ℕ} → a ≤ 1024 → 2050 + a + 1 < length starts
-  next_inside h = omega (arith, f.shaped.long)
 
 pub named_is : {a b x y : ℕ} → x ≡ a → y ≡ b → ltb x y ≡ ltb a b
 named_is p q = rw (p, q)

@@ -8,18 +8,17 @@ use Rattle.search.specs.Places.{truth_at}
 use Rattle.search.specs.Scan.{head_rest, weighted_rest}
 use Rattle.search.specs.declared.scan.Rest.{Rest}
 use Rattle.search.specs.declared.scan.Rest.TheVariants.{All, One, Off}
-use Rattle.counting.specs.declared.counters.Index.{Index}
+use Rattle.counting.specs.declared.index.Index.{Index}
+use Rattle.counting.specs.Shape.{Shape}
 use Rattle.counting.specs.declared.counters.Counters.{Counters}
 use Rattle.counting.specs.declared.counters.Marks.{Marks}
 
 -- literal a has list 2a, and its negation list 2a + 1; order 2: the rules with a weighted body that name the atom a have list 2050 + a. Among the heads atom a has list a.
-abbrev pub index : List ℕ → List ℕ → Index
-index s r = record { starts = s; rules = r }
+abbrev pub Shaped : Index → Type 0
+Shaped o = Shape o.starts o.rules
 
-pub record Shaped (o : Index) : Type 0 where
-  pub long : length o.starts ≡ 3076
-  pub inside : (i : ℕ) → get_or o.starts i 0 ≤ length o.rules
-  pub small : (e : ℕ) → get_or o.rules e 0 < 2048
+abbrev pub index : (s r : List ℕ) → Shape s r → Index
+index s r f = record { starts = s; rules = r; shape = f }
 
 abbrev pub counters : List ℕ → Marks → Counters
 counters k m = record { key = k; marks = m }

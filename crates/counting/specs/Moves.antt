@@ -5,9 +5,9 @@ use Rattle.asp.specs.Sets.{pick}
 use Rattle.asp.specs.Tables.{is_choice, is_weighted, row_at}
 use Rattle.search.specs.declared.trail.Places.{Places}
 use Rattle.search.specs.Places.{side_of, put_of, drop_of}
-use Rattle.counting.specs.declared.counters.Index.{Index}
+use Rattle.counting.specs.declared.index.Index.{Index}
 use Rattle.counting.specs.declared.counters.Counters.{Counters}
-use Rattle.counting.specs.Counters.{Shaped, first, list_length, decide_of, release_of, Bodies, weigh_of}
+use Rattle.counting.specs.Counters.{first, list_length, decide_of, release_of, Bodies, weigh_of}
 
 pub record CountedTrail : Type 0 where
   pub trail : Places
@@ -37,13 +37,6 @@ pub record ListReadable (b : Bodies) (rs : List ℕ) (from end : ℕ) : Type 0 w
 -- and each that names an atom
 pub record Weighable (b : Bodies) (o : Index) : Type 0 where
   pub each : (a e : ℕ) → a ≤ 1024 → first o (2050 + a) ≤ e → e < first o (2050 + a) + list_length o (2050 + a) → RowReadable b (get_or o.rules e 0)
-
--- the tables have their sizes
-pub record Fit (b : Bodies) (o : Index) (value key : List ℕ) : Type 0 where
-  pub weighable : Weighable b o
-  pub shaped : Shaped o
-  pub value_len : length value ≡ 1025
-  pub key_len : length key ≡ 2048
 
 unfoldable pub put_all : Bodies → Index → ℤ → ℕ → CountedTrail → CountedTrail
 put_all b o l m h =

@@ -1,13 +1,8 @@
 // A number for each rule: 1 for each undecided condition, 2 for each false one, and 2 more for a choice rule. So 0 is a broken rule, and 1 one with a single literal left.
 ghost use Rattle.std.specs.Prelude.{◌≡◌, ℕ, ◌-◌, ◌≤◌, ◌<◌, length, get_or};
-ghost use Rattle.counting.specs.Counters.{Shaped, first, list_length, plus_one, lower_marks, raise_marks, freed_marks, lower_at, raise_at, lower_from, raise_from, shift_of, decide_of, release_of};
+ghost use Rattle.counting.specs.Counters.{first, list_length, plus_one, lower_marks, raise_marks, freed_marks, lower_at, raise_at, lower_from, raise_from, shift_of, decide_of, release_of};
 
-// The rules in which a literal is a condition, or an atom is a head (or one that a weighted body names): list i has the places from `starts` at i to `starts` at i + 1 of `rules`.
-#[derive(Clone, Copy)]
-pub struct Index {
-    pub starts: [u16; 3076],
-    pub rules: [u16; 16385],
-}
+use crate::index::Index;
 
 // Where the searches start: how many rules are broken; a rule below which all numbers are 2 or more; one below which none is 0; and an atom below which all are decided.
 #[derive(Clone, Copy, PartialEq, Eq, Debug)]
@@ -130,7 +125,7 @@ impl Counters {
 
     // Those of list i.
     pub fn raise_list(&mut self, o: &Index, i: usize)
-        requires { Shaped o.now × (i < 2050) }
+        requires { i < 2050 }
         ensures { self.new ≡ raise_from o.now.rules (first o.now i) (list_length o.now i) self.old }
     {
         self.raise_all(
@@ -142,7 +137,7 @@ impl Counters {
 
     // The literal of list `down` comes nearer to true, that of list `up` to false.
     fn shift(&mut self, o: &Index, down: usize, up: usize)
-        requires { Shaped o.now × (down < 2050) × (up < 2050) }
+        requires { (down < 2050) × (up < 2050) }
         ensures { self.new ≡ shift_of o.now down up self.old }
     {
         self.lower_all(
@@ -155,7 +150,7 @@ impl Counters {
 
     // An undecided atom gets the value s.
     fn decide(&mut self, o: &Index, a: usize, s: u8)
-        requires { Shaped o.now × (a ≤ 1024) }
+        requires { a ≤ 1024 }
         ensures { self.new ≡ decide_of o.now a s self.old }
     {
         if s == 1 {
@@ -167,7 +162,7 @@ impl Counters {
 
     // An atom that had the value y becomes undecided.
     fn release(&mut self, o: &Index, a: usize, y: u8)
-        requires { Shaped o.now × (a ≤ 1024) }
+        requires { a ≤ 1024 }
         ensures { self.new ≡ release_of o.now a y self.old }
     {
         if y == 0 {
@@ -183,7 +178,7 @@ impl Counters {
 
     // An atom that has the value at a, of those lent, becomes undecided.
     pub fn forget(&mut self, o: &Index, value: &[u8; 1025], a: usize)
-        requires { Shaped o.now × (a ≤ 1024) }
+        requires { a ≤ 1024 }
         ensures { self.new ≡ release_of o.now a (get_or value.now a 0) self.old }
     {
         self.release(o, a, value[a]);
@@ -191,7 +186,7 @@ impl Counters {
 
     // An atom that has the value at a, of those lent, gets the value s.
     pub fn assign(&mut self, o: &Index, value: &[u8; 1025], a: usize, s: u8)
-        requires { Shaped o.now × (a ≤ 1024) }
+        requires { a ≤ 1024 }
         ensures { self.new ≡ decide_of o.now a s (release_of o.now a (get_or value.now a 0) self.old) }
     {
         self.forget(o, value, a);

@@ -5,11 +5,14 @@ ghost use Rattle.asp.specs.Tables.{row_at};
 ghost use Rattle.asp.specs.Growth.{pairs_of};
 ghost use Rattle.search.specs.Scan.{head_rest, weighted_rest};
 ghost use Rattle.search.specs.Weigh.{met_at, body_rest, both_rest};
-ghost use Rattle.counting.specs.Moves.{RowWeighs, RowReadable, ListReadable, Fit};
-ghost use Rattle.counting.specs.Counters.{least, rest_number, weigh_number, bodies, broken_after, put_marks, put_at, renew_at, open_at, weigh_from, weigh_of};
+ghost use Rattle.counting.specs.Moves.{RowWeighs, RowReadable, ListReadable};
+ghost use Rattle.counting.specs.Counters.{least, rest_number, weigh_number, broken_after, put_marks, put_at, renew_at, open_at, weigh_from, weigh_of};
+ghost use Rattle.counting.specs.Lent.{bodies_lent};
 
 use crate::counters;
-use crate::counters::{Counters, Index, Marks};
+use crate::counters::{Counters, Marks};
+use crate::index::Index;
+use crate::listed::Listed;
 use asp::rules::{HeadKind, Pairs, Row};
 use bodies::weigh;
 use search::scan::Rest;
@@ -26,35 +29,6 @@ fn rest_number(rest: Rest) -> u16
     }
 }
 
-// What is left of a rule's head.
-fn head_rest(pool: &[i32], row: Row, value: &[u8; 1025]) -> Rest
-    requires { RowWeighs pool.now row }
-    ensures { result ≡ head_rest pool.now value.now row }
-{
-    match row.head {
-        HeadKind::Choice => Rest::Off,
-        HeadKind::Plain if row.heads == 0 => Rest::All,
-        HeadKind::Plain => {
-            let first = usize::from(row.first);
-            scan::meet_at(
-                pool,
-                value,
-                Rest::All,
-                first + usize::from(row.heads),
-                first,
-            )
-        }
-    }
-}
-
-// What is left of its body.
-fn body_rest(pool: &[i32], row: Row, value: &[u8; 1025]) -> Rest
-    requires { RowWeighs pool.now row }
-    ensures { result ≡ weighted_rest pool.now value.now row }
-{
-    weigh::body_rest(row.pairs(pool), row.bound(pool), row.body.is_mixed(), value)
-}
-
 fn both(head: Rest, body: Rest) -> Rest
     ensures { result ≡ both_rest head body }
 {
@@ -63,14 +37,6 @@ fn both(head: Rest, body: Rest) -> Rest
         (Rest::One(_), Rest::All) => head,
         _ => Rest::Off,
     }
-}
-
-// What is left of a rule with a weighted body.
-pub fn rest(pool: &[i32], row: Row, value: &[u8; 1025]) -> Rest
-    requires { RowWeighs pool.now row }
-    ensures { result ≡ both_rest (head_rest pool.now value.now row) (weighted_rest pool.now value.now row) }
-{
-    both(head_rest(pool, row, value), body_rest(pool, row, value))
 }
 
 // What pairs come to: the weights of the true literals, and the greatest of an undecided one.
@@ -125,26 +91,65 @@ fn plain_number(body: Pairs<'_>, bound: u64, value: &[u8; 1025]) -> u16
     }
 }
 
-// The number of a body.
-fn body_number(pool: &[i32], row: Row, value: &[u8; 1025]) -> u16
-    requires { RowWeighs pool.now row }
-    ensures value { result ≡ rest_number (weighted_rest pool.now value.now row) }
-    ensures small { result ≤ 2 }
-{
-    if row.body.is_mixed() {
-        rest_number(body_rest(pool, row, value))
-    } else {
-        plain_number(row.pairs(pool), row.bound(pool), value)
-    }
+// A rule with a weighted body, in the pool of its literals.
+#[derive(Clone, Copy)]
+pub struct WeightedRule<'a> {
+    pub pool: &'a [i32],
+    pub row: Row,
+    pub ghost weighs: { RowWeighs pool.now row },
 }
 
-// Its number.
-pub fn number(pool: &[i32], row: Row, value: &[u8; 1025]) -> u16
-    requires { RowWeighs pool.now row }
-    ensures value { result ≡ weigh_number pool.now value.now row }
-    ensures small { result ≤ 4 }
-{
-    rest_number(head_rest(pool, row, value)) + body_number(pool, row, value)
+impl WeightedRule<'_> {
+    // What is left of its head.
+    fn head_rest(self, value: &[u8; 1025]) -> Rest
+        ensures { result ≡ head_rest self.entry.pool.now value.now self.entry.row }
+    {
+        match self.row.head {
+            HeadKind::Choice => Rest::Off,
+            HeadKind::Plain if self.row.heads == 0 => Rest::All,
+            HeadKind::Plain => {
+                let first = usize::from(self.row.first);
+                let mid = first + usize::from(self.row.heads);
+                scan::meet_at(self.pool, value, Rest::All, mid, first)
+            }
+        }
+    }
+
+    // What is left of its body.
+    fn body_rest(self, value: &[u8; 1025]) -> Rest
+        ensures { result ≡ weighted_rest self.entry.pool.now value.now self.entry.row }
+    {
+        let pairs = self.row.pairs(self.pool);
+        let bound = self.row.bound(self.pool);
+        weigh::body_rest(pairs, bound, self.row.body.is_mixed(), value)
+    }
+
+    // What is left of it.
+    pub fn rest(self, value: &[u8; 1025]) -> Rest
+        ensures { result ≡ both_rest (head_rest self.entry.pool.now value.now self.entry.row) (weighted_rest self.entry.pool.now value.now self.entry.row) }
+    {
+        both(self.head_rest(value), self.body_rest(value))
+    }
+
+    // The number of its body.
+    fn body_number(self, value: &[u8; 1025]) -> u16
+        ensures value { result ≡ rest_number (weighted_rest self.entry.pool.now value.now self.entry.row) }
+        ensures small { result ≤ 2 }
+    {
+        if self.row.body.is_mixed() {
+            rest_number(self.body_rest(value))
+        } else {
+            plain_number(self.row.pairs(self.pool), self.row.bound(self.pool), value)
+        }
+    }
+
+    // Its number.
+    pub fn number(self, value: &[u8; 1025]) -> u16
+        ensures value { result ≡ weigh_number self.entry.pool.now value.now self.entry.row }
+        ensures small { result ≤ 4 }
+    {
+        rest_number(self.head_rest(value)) + self.body_number(value)
+    }
 }
 
 // How many rules are broken, after one had `old` and has `new`.
@@ -210,25 +215,6 @@ fn renew_at(t: &mut Counters, r: usize, k: u16)
     put_at(t, r, k);
 }
 
-// The rules at the places `from` to `end` get their numbers.
-fn weigh_all(
-    pool: &[i32],
-    rows: &[Row],
-    rules: &[u16],
-    from: usize,
-    end: usize,
-    value: &[u8; 1025],
-    t: &mut Counters,
-)
-    requires { ListReadable (bodies pool.now rows.now) rules.now from end }
-    ensures { t.new ≡ weigh_from (bodies pool.now rows.now) value.now rules.now from (end - from) t.old }
-{
-    for e in from..end {
-        let r = usize::from(rules[e]);
-        renew_at(t, r, number(pool, rows[r], value));
-    }
-}
-
 // Whether some rule with a weighted body names the atom a.
 pub fn is_named(o: &Index, a: usize) -> bool
     requires { a ≤ 1024 }
@@ -237,19 +223,29 @@ pub fn is_named(o: &Index, a: usize) -> bool
     o.starts[2050 + a] < o.starts[2050 + a + 1]
 }
 
-// The value of the atom a has changed: the rules that name it get their numbers.
-pub fn reweigh(
-    pool: &[i32],
-    rows: &[Row],
-    o: &Index,
-    a: usize,
-    value: &[u8; 1025],
-    t: &mut Counters,
-)
-    requires { Fit (bodies pool.now rows.now) o.now value.now t.old.key × (a ≤ 1024) }
-    ensures { t.new ≡ weigh_of (bodies pool.now rows.now) o.now a value.now t.old }
-{
-    let from = usize::from(o.starts[2050 + a]);
-    let end = usize::from(o.starts[2050 + a + 1]);
-    weigh_all(pool, rows, &o.rules, from, end, value, t);
+impl Listed<'_> {
+    // The rules at the places `from` to `end` get their numbers.
+    fn weigh_all(&self, from: usize, end: usize, value: &[u8; 1025], t: &mut Counters)
+        requires { ListReadable (bodies_lent self.now.rules) self.now.lists.now.rules from end }
+        ensures { t.new ≡ weigh_from (bodies_lent self.now.rules) value.now self.now.lists.now.rules from (end - from) t.old }
+    {
+        for e in from..end {
+            let r = usize::from(self.lists.rules[e]);
+            let rule = WeightedRule {
+                pool: self.rules.pool,
+                row: self.rules.rows[r],
+            };
+            renew_at(t, r, rule.number(value));
+        }
+    }
+
+    // The value of the atom a has changed: the rules that name it get their numbers.
+    pub fn reweigh(&self, a: usize, value: &[u8; 1025], t: &mut Counters)
+        requires { a ≤ 1024 }
+        ensures { t.new ≡ weigh_of (bodies_lent self.now.rules) self.now.lists.now a value.now t.old }
+    {
+        let from = usize::from(self.lists.starts[2050 + a]);
+        let end = usize::from(self.lists.starts[2050 + a + 1]);
+        self.weigh_all(from, end, value, t);
+    }
 }

@@ -27,7 +27,7 @@ use Rattle.search.specs.Weigh.{owed_at, met_at, least_at, body_rest}
 use Rattle.search.specs.declared.scan.Rest.{Rest}
 use Rattle.search.proofs.ScanLaws.{off_stays}
 use Rattle.search.proofs.Formed.{named_is, rule_in, atom_in_lem}
-use Rattle.counting.specs.declared.counters.Index.{Index}
+use Rattle.counting.specs.declared.index.Index.{Index}
 use Rattle.counting.specs.declared.counters.Counters.{Counters}
 use Rattle.counting.specs.Counters.{first, list_length, rest_number, weigh_number}
 use Rattle.counting.specs.Counts.{sum_from, times_in, weigh, term, key_of, list_of}
@@ -207,7 +207,7 @@ module _ (n : ℕ) (pool : List ℤ) (rows : List Row) (count : ℕ) (form : For
     in_body : (l : ℤ) (p : StandsAt G leaf.readied r c l) → W.first + W.heads ≤ p.at → truth_at v l ≡ 1
     in_body l p a = let z : l ≡ get_or pool p.at (pos 0) = sym p.is ∙ cond_body p.at a in rw z (body_true p.at a p.to)
 
-    body_key : W.first + W.heads ≤ lo_in false rows r → sum_from (λ a. term o r a (get_or v a 0)) 0 1025 ≡ 0
+    body_key : W.first + W.heads ≤ lo_in false (row_at rows r) → sum_from (λ a. term o r a (get_or v a 0)) 0 1025 ≡ 0
     body_key a = sum_none (λ a. term o r a (get_or v a 0)) 0 1025 (λ x p q. term_zero x (omega arith) (λ l e k. in_body l k (omega (arith, k.from))))
 
     normal_choice : is_choice W.head ≡ true → key_of G o v r ≡ 2

@@ -32,12 +32,12 @@ use Rattle.search.proofs.TrailTables.{trail_length}
 use Rattle.counting.specs.Counts.{Tells}
 use Rattle.counting.proofs.Telling.{told}
 use Rattle.counting.specs.declared.counters.Marks.{Marks}
-use Rattle.counting.specs.declared.counters.Index.{Index}
+use Rattle.counting.specs.declared.index.Index.{Index}
 use Rattle.counting.specs.declared.counters.Counters.{Counters}
-use Rattle.counting.specs.Counters.{index, counters, Bodies, bodies}
-use Rattle.counting.specs.Moves.{CountedTrail, counted_trail, Fit, back_all}
+use Rattle.counting.specs.Counters.{counters, Bodies, bodies}
+use Rattle.counting.specs.Moves.{CountedTrail, counted_trail, back_all}
 use Rattle.counting.specs.Counts.{Tracks, Indexed}
-use Rattle.stepping.proofs.StepLaws.{back_trail, counted_back, indexed_weighable}
+use Rattle.stepping.proofs.StepLaws.{back_trail, counted_back}
 use Rattle.indexing.specs.Leaf.{Whole, Leaf, Indexes, Equipped}
 use Rattle.indexing.proofs.Indexing.{indexed}
 
@@ -50,9 +50,6 @@ module _ {g : Rules} {o h : Index} {v : List ℕ} {t : Counters} (x : Equipped g
 
   pub equipped_after : {v₁ : List ℕ} {t₁ : Counters} → Tracks g o v₁ t₁ → Equipped g o h v₁ t₁
   equipped_after k = record { readied = x.readied; conditions = x.conditions; heads = x.heads; counted = k }
-
-pub equipped_fit : {pool : List ℤ} {rows : List Row} {count : ℕ} {o h : Index} {t : Places} {y : Counters} → Equipped (rules pool rows count) o h t.value y → Good t → Fit (bodies pool rows) o t.value y.key
-equipped_fit x f = record { weighable = indexed_weighable (equipped_indexed x) x.readied.readable; shaped = x.conditions.shaped; value_len = f.value_len; key_len = x.counted.marked.long }
 
 pub back_is : (bs : Bodies) (o : Index) (t : Places) (y : Counters) {t₁ : Places} {y₁ : Counters} → counted_trail t₁ y₁ ≡ back_all bs o (counted_trail t y) → t₁ ≡ back_of t
 back_is bs o t y z = ap (λ (h : CountedTrail). h.trail) z ∙ back_trail bs o t.len (counted_trail t y)

@@ -3,7 +3,7 @@ use Rattle.std.specs.Prelude.{◌≡◌, List, ℕ, ◌+◌, ◌*◌, ◌<◌, e
 use Rattle.asp.specs.declared.rules.Row.{Row}
 use Rattle.asp.specs.Sets.{pick}
 use Rattle.asp.specs.Tables.{is_choice, is_weighted, row_at}
-use Rattle.counting.specs.declared.counters.Index.{Index}
+use Rattle.counting.specs.declared.index.Index.{Index}
 use Rattle.counting.specs.declared.counters.Counters.{Counters}
 use Rattle.counting.specs.Counters.{first, list_length, raise_from, weigh_number}
 use Rattle.counting.specs.Counts.{broken_many}

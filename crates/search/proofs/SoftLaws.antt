@@ -81,9 +81,8 @@ module _ {w : List ℤ} {k : ℕ} {v : List ℕ} {i : ℕ} where
   pub passed_next : Passed w k v i → i < k → {x : ℕ} → x ≡ truth_at v (get_or w i (pos 0)) → (x ≡ 0 → ⊥) → Passed w k v (i + 1)
   passed_next o h e q = record { below = omega arith; rest = sym (wish_more w v i k h (λ z. q (e ∙ z))) ∙ o.rest }
 
-  -- the literal comes from a call as its bits, read back
-  pub passed_here : Passed w k v i → ReadableWishes w k → i < k → {x : ℕ} → x ≡ truth_at v (get_or w i (pos 0)) → x ≡ 0 → {l : ℤ} → l ≡ get_or w i (pos 0) → Some (to_z w32 (of_z w32 l)) ≡ wish_of w k v
-  passed_here o f h e q z = rw (z, to_z-of_z (small_fits (get_or w i (pos 0)) (f.small i h))) (sym (wish_here w v i k h (sym e ∙ q)) ∙ o.rest)
+  pub passed_here : Passed w k v i → i < k → {x : ℕ} → x ≡ truth_at v (get_or w i (pos 0)) → x ≡ 0 → Some (get_or w i (pos 0)) ≡ wish_of w k v
+  passed_here o h e q = sym (wish_here w v i k h (sym e ∙ q)) ∙ o.rest
 
   pub passed_all : Passed w k v i → k ≤ i → None ≡ wish_of w k v
   passed_all o h = sym (wish_none w v i k h) ∙ o.rest

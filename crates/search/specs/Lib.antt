@@ -8,3 +8,4 @@ pub mod Soft
 pub mod Branch
 pub mod Step
 pub mod Link
+pub mod Lent

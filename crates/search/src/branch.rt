@@ -1,11 +1,11 @@
 // Where to branch on an open trail. Document 01 leaves it free; docs/DECISIONS.md says why this way.
 ghost use Rattle.std.specs.Prelude.{◌≡◌, ℕ, ◌≤◌, eqb};
 ghost use Rattle.asp.specs.Sets.{set_of, pick};
-ghost use Rattle.search.specs.Soft.{ReadableWishes};
-ghost use Rattle.search.specs.Branch.{Noted, DecidedBelow, LowestIs, lowest_of, free_literal, free_branch, branch_of};
+ghost use Rattle.search.specs.Branch.{Noted, DecidedBelow, LowestIs, lowest_of, free_literal};
+ghost use Rattle.search.specs.Lent.{free_branch_lent, branch_lent};
 
 use crate::scan::Found;
-use crate::soft;
+use crate::soft::Wishes;
 use asp::literal;
 
 fn at_least_one(a: usize) -> usize
@@ -28,59 +28,41 @@ pub fn lowest(value: &[u8; 1025], n: usize, start: usize) -> usize
     n
 }
 
-// The literal of atom a to try first: in, if the table says so.
-fn free_literal(tried: &[u8; 1025], a: usize) -> i32
-    requires { a ≤ 1024 }
-    ensures { result ≡ free_literal (set_of tried.now) a }
-{
-    if tried[a] == 1 {
-        literal::positive(a)
-    } else {
-        literal::negative(a)
+impl Wishes<'_> {
+    // The literal of atom a to try first: in, if the table says so.
+    fn free_literal(&self, a: usize) -> i32
+        requires { a ≤ 1024 }
+        ensures { result ≡ free_literal (set_of self.now.tried.now) a }
+    {
+        if self.tried[a] == 1 {
+            literal::positive(a)
+        } else {
+            literal::negative(a)
+        }
     }
-}
 
-// Where no literal would break a rule: the first undecided wished literal; else that of a, the lowest undecided atom.
-fn free_branch<'a>(
-    tried: &'a [u8; 1025],
-    wished: &'a [i32],
-    count: usize,
-    n: usize,
-    value: &'a [u8; 1025],
-    a: usize,
-) -> i32
-    requires le_n { 1 ≤ n }
-    requires n_bound { n ≤ 1024 }
-    requires a_value { a ≡ lowest_of value.now n }
-    requires readable_wishes { ReadableWishes wished.now count }
-    ensures { result ≡ free_branch (set_of tried.now) wished.now count value.now n }
-{
-    match soft::undecided(wished, count, value) {
-        Some(l) => l,
-        None => free_literal(tried, a),
+    // Where no literal would break a rule: the first undecided wished literal; else that of a, the lowest undecided atom.
+    fn free_branch(&self, value: &[u8; 1025], a: usize) -> i32
+        requires le_n { 1 ≤ self.now.atoms }
+        requires a_value { a ≡ lowest_of value.now self.now.atoms }
+        ensures { result ≡ free_branch_lent self.now value.now }
+    {
+        match self.undecided(value) {
+            Some(l) => l,
+            None => self.free_literal(a),
+        }
     }
-}
 
-// The literal to add: the complement of the one that would break a rule, else a free one.
-pub fn branch<'a>(
-    found: Found,
-    tried: &'a [u8; 1025],
-    wished: &'a [i32],
-    count: usize,
-    n: usize,
-    value: &'a [u8; 1025],
-    a: usize,
-) -> i32
-    requires le_n { 1 ≤ n }
-    requires n_bound { n ≤ 1024 }
-    requires noted { Noted found }
-    requires a_value { a ≡ lowest_of value.now n }
-    requires readable_wishes { ReadableWishes wished.now count }
-    ensures { result ≡ branch_of (set_of tried.now) wished.now count value.now n found }
-{
-    match found {
-        Found::Breaker(l) => literal::complement(l),
-        Found::Broken(_) => free_branch(tried, wished, count, n, value, a),
-        Found::Clear => free_branch(tried, wished, count, n, value, a),
+    // The literal to add: the complement of the one that would break a rule, else a free one.
+    pub fn branch(&self, found: Found, value: &[u8; 1025], a: usize) -> i32
+        requires le_n { 1 ≤ self.now.atoms }
+        requires noted { Noted found }
+        requires a_value { a ≡ lowest_of value.now self.now.atoms }
+        ensures { result ≡ branch_lent self.now value.now found }
+    {
+        match found {
+            Found::Breaker(l) => literal::complement(l),
+            Found::Broken(_) | Found::Clear => self.free_branch(value, a),
+        }
     }
 }

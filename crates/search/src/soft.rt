@@ -1,9 +1,20 @@
 // The assumed soft literals of entries (document 01's wishes): each is the literal that it wishes for, and is violated where that does not hold.
-ghost use Rattle.std.specs.Prelude.{◌≡◌};
+ghost use Rattle.std.specs.Prelude.{◌≡◌, ◌≤◌, length};
 ghost use Rattle.asp.specs.Sets.{set_of};
-ghost use Rattle.search.specs.Soft.{assumed_entries, ReadableWishes, ReadableSoft, first_of, violated_of, wish_of};
+ghost use Rattle.search.specs.Soft.{assumed_entries, FormedSoft, first_of};
 
 use crate::value::truth;
+
+// The literal that each one wishes for, over the atoms 1 to `atoms`; 1 where it is blamed already; and, by atom, 1 for one that a free branch tries in first.
+#[derive(Clone, Copy)]
+pub struct Wishes<'a> {
+    pub atoms: usize,
+    pub literals: &'a [i32],
+    pub blamed: &'a [u8],
+    pub tried: &'a [u8; 1025],
+    pub ghost few: { atoms ≤ 1024 },
+    pub ghost formed: { FormedSoft atoms (assumed_entries literals.now blamed.now (length literals.now) (set_of tried.now)) },
+}
 
 fn first_of(found: Option<usize>, i: usize) -> Option<usize>
     ensures { result ≡ first_of found i }
@@ -11,39 +22,36 @@ fn first_of(found: Option<usize>, i: usize) -> Option<usize>
     found.or(Some(i))
 }
 
-// The first one that is violated and blamed already; else the first that is violated; None, where none is.
-pub fn violated<'a>(
-    tried: &'a [u8; 1025],
-    wished: &'a [i32],
-    blamed: &'a [u8],
-    count: usize,
-    value: &'a [u8; 1025],
-) -> Option<usize>
-    requires { ReadableSoft (assumed_entries wished.now blamed.now count (set_of tried.now)) }
-    ensures { result ≡ violated_of (assumed_entries wished.now blamed.now count (set_of tried.now)) value.now }
-{
-    let mut found = None;
-    for i in 0..count {
-        if truth(value, wished[i]) != 2 {
-            continue;
-        }
-        if blamed[i] == 1 {
-            return Some(i);
-        }
-        found = first_of(found, i);
-    }
-    found
-}
+impl Wishes<'_> {
+    ghost use Rattle.search.specs.Soft.{violated_of, wish_of};
+    ghost use Rattle.search.specs.Lent.{assumed_lent};
 
-// The first wished literal whose atom is undecided.
-pub fn undecided<'a>(wished: &'a [i32], count: usize, value: &'a [u8; 1025]) -> Option<i32>
-    requires { ReadableWishes wished.now count }
-    ensures { result ≡ wish_of wished.now count value.now }
-{
-    for i in 0..count {
-        if truth(value, wished[i]) == 0 {
-            return Some(wished[i]);
+    // The first one that is violated and blamed already; else the first that is violated; None, where none is.
+    pub fn violated(&self, value: &[u8; 1025]) -> Option<usize>
+        ensures { result ≡ violated_of (assumed_lent self.now) value.now }
+    {
+        let mut found = None;
+        for (i, l) in self.literals.iter().enumerate() {
+            if truth(value, *l) != 2 {
+                continue;
+            }
+            if self.blamed[i] == 1 {
+                return Some(i);
+            }
+            found = first_of(found, i);
         }
+        found
     }
-    None
+
+    // The first wished literal whose atom is undecided.
+    pub fn undecided(&self, value: &[u8; 1025]) -> Option<i32>
+        ensures { result ≡ wish_of self.now.literals.now (length self.now.literals.now) value.now }
+    {
+        for l in self.literals {
+            if truth(value, *l) == 0 {
+                return Some(*l);
+            }
+        }
+        None
+    }
 }

@@ -10,7 +10,7 @@ use Rattle.asp.specs.Sets.{Set}
 use Rattle.search.specs.Soft.{AssumedEntries, assumed_entries, FormedSoft}
 use Rattle.search.specs.Step.{stepped, step_of}
 use Rattle.search.proofs.Kept.{after_back, after_fresh, after_step}
-use Rattle.counting.specs.declared.counters.Index.{Index}
+use Rattle.counting.specs.declared.index.Index.{Index}
 use Rattle.counting.specs.declared.counters.Counters.{Counters}
 use Rattle.counting.specs.Counts.{Tracks}
 use Rattle.indexing.specs.Sorting.{Readied, Sorted}

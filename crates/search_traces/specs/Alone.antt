@@ -5,7 +5,7 @@ use Rattle.std.proofs.Props.{props}
 use Rattle.search.specs.declared.trail.Places.{Places}
 use Rattle.search.specs.Trail.{Trail, NotOn, FormedTrail}
 use Rattle.search.specs.Scan.{Rules}
-use Rattle.counting.specs.declared.counters.Index.{Index}
+use Rattle.counting.specs.declared.index.Index.{Index}
 use Rattle.counting.specs.declared.counters.Counters.{Counters}
 use Rattle.search_traces.specs.Stored.{Running}
 

@@ -6,7 +6,7 @@ use Rattle.asp.specs.Tables.{row_at}
 use Rattle.search.specs.declared.trail.Places.{Places}
 use Rattle.search.specs.Places.{SoundTrail}
 use Rattle.search.specs.Scan.{Rules}
-use Rattle.counting.specs.declared.counters.Index.{Index}
+use Rattle.counting.specs.declared.index.Index.{Index}
 use Rattle.counting.specs.declared.counters.Counters.{Counters}
 use Rattle.counting.specs.Counts.{sum_from}
 use Rattle.indexing.specs.Leaf.{Equipped}

@@ -17,10 +17,10 @@ use Rattle.search.specs.declared.trail.Places.{Places}
 use Rattle.search.specs.Places.{places, side_of, put_of, drop_of, Good}
 use Rattle.search.proofs.PlacesLaws.{good_drop}
 use Rattle.counting.specs.declared.counters.Marks.{Marks}
-use Rattle.counting.specs.declared.counters.Index.{Index}
+use Rattle.counting.specs.declared.index.Index.{Index}
 use Rattle.counting.specs.declared.counters.Counters.{Counters}
-use Rattle.counting.specs.Counters.{index, counters, decide_of, release_of, Bodies, weigh_of}
-use Rattle.counting.specs.Moves.{CountedTrail, counted_trail, Fit, put_all, drop_all, back_all_from, back_all}
+use Rattle.counting.specs.Counters.{counters, decide_of, release_of, Bodies, weigh_of}
+use Rattle.counting.specs.Moves.{CountedTrail, counted_trail, put_all, drop_all, back_all_from, back_all}
 use Rattle.counting.proofs.CounterLaws.{release_len, decide_len, weigh_len, weigh_none}
 
 -- a small i32 read back
@@ -55,65 +55,14 @@ module _ (bs : Bodies) (o : Index) (k : ℕ) (t : Places) (y : Counters) where
   unfolding drop_all
   drop_done h ea ey et ez = rw (ez, et, ey, ea, back_to (get_or t.lits k (pos 0)) h)
 
--- ---- sizes
-
--- between the lists and the weighted bodies
-module _ {bs : Bodies} {o : Index} {v : List ℕ} {y₁ : Counters} (y : Counters) (f : Fit bs o v y.key) where
-  pub put_between : (a s x : ℕ) → y₁ ≡ decide_of o a s (release_of o a x y) → (l : ℤ) (mark : ℕ) (t : Places) → t.value ≡ v → {t₁ : Places} → t₁ ≡ put_of l mark t → Fit bs o t₁.value y₁.key
-  unfolding put_of
-  put_between a s x e l mark t p q = record {
-    weighable = f.weighable;
-    shaped = f.shaped;
-    value_len = ap (λ (u : Places). length u.value) q ∙ simp length-set (ap length p ∙ f.value_len);
-    key_len = ap (λ (u : Counters). length u.key) e ∙ decide_len o a s (release_of o a x y) ∙ release_len o a x y ∙ f.key_len;
-  }
-
-  pub drop_between : (a x : ℕ) → y₁ ≡ release_of o a x y → (j : ℕ) (t : Places) → t.value ≡ v → {t₁ : Places} → t₁ ≡ drop_of j t → Fit bs o t₁.value y₁.key
-  unfolding drop_of
-  drop_between a x e j t p q = record {
-    weighable = f.weighable;
-    shaped = f.shaped;
-    value_len = ap (λ (u : Places). length u.value) q ∙ simp length-set (ap length p ∙ f.value_len);
-    key_len = ap (λ (u : Counters). length u.key) e ∙ release_len o a x y ∙ f.key_len;
-  }
-
-put_fit : (bs : Bodies) (o : Index) (l : ℤ) (m : ℕ) (h : CountedTrail) → Fit bs o h.trail.value h.counters.key → Fit bs o (put_all bs o l m h).trail.value (put_all bs o l m h).counters.key
-unfolding put_all put_of
-put_fit bs o l m h f = record {
-  weighable = f.weighable;
-  shaped = f.shaped;
-  value_len = simp length-set f.value_len;
-  key_len = weigh_len bs o (nat_abs l) (set h.trail.value (nat_abs l) (side_of l)) (decide_of o (nat_abs l) (side_of l) (release_of o (nat_abs l) (get_or h.trail.value (nat_abs l) 0) h.counters)) ∙ decide_len o (nat_abs l) (side_of l) (release_of o (nat_abs l) (get_or h.trail.value (nat_abs l) 0) h.counters) ∙ release_len o (nat_abs l) (get_or h.trail.value (nat_abs l) 0) h.counters ∙ f.key_len;
-}
-
-drop_fit : (bs : Bodies) (o : Index) (k : ℕ) (h : CountedTrail) → Fit bs o h.trail.value h.counters.key → Fit bs o (drop_all bs o k h).trail.value (drop_all bs o k h).counters.key
-unfolding drop_all drop_of
-drop_fit bs o k h f = record {
-  weighable = f.weighable;
-  shaped = f.shaped;
-  value_len = simp length-set f.value_len;
-  key_len = weigh_len bs o (nat_abs (get_or h.trail.lits k (pos 0))) (set h.trail.value (nat_abs (get_or h.trail.lits k (pos 0))) 0) (release_of o (nat_abs (get_or h.trail.lits k (pos 0))) (get_or h.trail.value (nat_abs (get_or h.trail.lits k (pos 0))) 0) h.counters) ∙ release_len o (nat_abs (get_or h.trail.lits k (pos 0))) (get_or h.trail.value (nat_abs (get_or h.trail.lits k (pos 0))) 0) h.counters ∙ f.key_len;
-}
-
-pub back_fit : (bs : Bodies) (o : Index) (k : ℕ) (h : CountedTrail) → Fit bs o h.trail.value h.counters.key → Fit bs o (back_all_from bs o k h).trail.value (back_all_from bs o k h).counters.key
-unfolding back_all_from
-back_fit bs o zero h f = f
-back_fit bs o (suc k) h f = go (eqb (get_or h.trail.marks k 0) 1) (back_fit bs o k (drop_all bs o k h) (drop_fit bs o k h f))
-  where
-    go : (b : Bool) → Fit bs o (back_all_from bs o k (drop_all bs o k h)).trail.value (back_all_from bs o k (drop_all bs o k h)).counters.key
-        → Fit bs o (pick b (put_all bs o (neg_ℤ (get_or h.trail.lits k (pos 0))) 2 (drop_all bs o k h)) (back_all_from bs o k (drop_all bs o k h))).trail.value (pick b (put_all bs o (neg_ℤ (get_or h.trail.lits k (pos 0))) 2 (drop_all bs o k h)) (back_all_from bs o k (drop_all bs o k h))).counters.key
-    go true r = put_fit bs o (neg_ℤ (get_or h.trail.lits k (pos 0))) 2 (drop_all bs o k h) (drop_fit bs o k h f)
-    go false r = r
-
 -- ---- the way back
 
 pub record Back (bs : Bodies) (o : Index) (h₀ h : CountedTrail) : Type 0 where
   pub good : Good h.trail
-  pub fit : Fit bs o h.trail.value h.counters.key
   pub rest : back_all bs o h ≡ back_all bs o h₀
 
-pub back_start : (bs : Bodies) (o : Index) (h : CountedTrail) → Good h.trail → Fit bs o h.trail.value h.counters.key → Back bs o h h
-back_start bs o h g f = record { good = g; fit = f; rest = refl }
+pub back_start : (bs : Bodies) (o : Index) (h : CountedTrail) → Good h.trail → Back bs o h h
+back_start bs o h g = record { good = g; rest = refl }
 
 module _ (bs : Bodies) (o : Index) (h : CountedTrail) (j : ℕ) where
   from_next : (k : ℕ) → k ≡ suc j → (get_or h.trail.marks j 0 ≡ 1 → ⊥) → back_all_from bs o k h ≡ back_all_from bs o j (drop_all bs o j h)
@@ -139,12 +88,8 @@ module _ {bs : Bodies} {o : Index} {h₀ h : CountedTrail} (i : Back bs o h₀ h
   pub back_next : (get_or h.trail.marks j 0 ≡ 1 → ⊥) → {h₁ : CountedTrail} → h₁ ≡ drop_all bs o j h → Back bs o h₀ h₁
   back_next q e = rw e (record {
     good = drop_good bs o h j i.good (omega (arith, i.good.short));
-    fit = drop_fit bs o j h i.fit;
     rest = ap (λ (z : ℕ). back_all_from bs o z (drop_all bs o j h)) (drop_len bs o h j) ∙ (sym (from_next bs o h j h.trail.len (omega arith) q) ∙ i.rest);
   })
-
-  pub dropped_fit : {h₁ : CountedTrail} → h₁ ≡ drop_all bs o j h → Fit bs o h₁.trail.value h₁.counters.key
-  dropped_fit e = rw e (drop_fit bs o j h i.fit)
 
   pub dropped_shorter : {h₁ : CountedTrail} → h₁ ≡ drop_all bs o j h → h₁.trail.len < h.trail.len
   dropped_shorter e = let q = ap (λ (x : CountedTrail). x.trail.len) e ∙ drop_len bs o h j in omega (arith, q)

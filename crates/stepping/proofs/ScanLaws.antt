@@ -53,10 +53,6 @@ module _ (k x : ℕ) where
 
 -- ---- the loops
 
-pub record Outer (g : Rules) (v key : List ℕ) (w : ℕ) (found : Found) (r : ℕ) : Type 0 where
-  pub below : NoneBelow key g.count w r
-  pub clear : found ≡ Clear
-
 pub record Inner (g : Rules) (v : List ℕ) (r mid end k : ℕ) : Type 0 where
   pub inside : end ≤ length g.pool
   pub last : end ≡ (row_of g r).first + (row_of g r).heads + (row_of g r).literals
@@ -97,27 +93,25 @@ half_none key w r k {x} {y} e f q = let z = both x y q in none_both key w r k k 
 pub none_false : (key : List ℕ) (w r k : ℕ) → false ≡ true → NoneIn key w r k
 none_false key w r k e = absurd (clash e)
 
-pub outer_start : (g : Rules) (v key : List ℕ) (w r : ℕ) → NoneBelow key g.count w r → Outer g v key w Clear r
-outer_start g v key w r p = record { below = p; clear = refl }
+module _ {key : List ℕ} {count w r : ℕ} (o : NoneBelow key count w r) where
+  -- the rule's number is another
+  pub below_next : {x : Bool} → x ≡ pick (eqb (get_or key r 0) w) false true → x ≡ true → NoneBelow key count w (r + 1)
+  below_next e q = record { passed = λ j l c. go j l c (eqb j r) refl }
+    where
+      go : (j : ℕ) → j < r + 1 → j < count → (b : Bool) → eqb j r ≡ b → get_or key j 0 ≡ w → ⊥
+      go j l c true p = let z : j ≡ r = eqb-true j r p in rw z (not_here key w r e q)
+      go j l c false p = let z = eqb-false j r p in o.passed j (omega arith) c
 
--- the rule's number is another
-pub outer_next : (g : Rules) (v key : List ℕ) (w : ℕ) {found : Found} {r : ℕ} → Outer g v key w found r → {x : Bool} → x ≡ pick (eqb (get_or key r 0) w) false true → x ≡ true → Outer g v key w found (r + 1)
-outer_next g v key w {found} {r} o e q = record { clear = o.clear; below = record { passed = λ j l c. go j l c (eqb j r) refl } }
-  where
-    go : (j : ℕ) → j < r + 1 → j < g.count → (b : Bool) → eqb j r ≡ b → get_or key j 0 ≡ w → ⊥
-    go j l c true p = let z : j ≡ r = eqb-true j r p in rw z (not_here key w r e q)
-    go j l c false p = let z = eqb-false j r p in o.below.passed j (omega arith) c
-
--- those of sixteen rules are others
-pub outer_skip : (g : Rules) (v key : List ℕ) (w : ℕ) {found : Found} {r : ℕ} → Outer g v key w found r → {x : Bool} → (x ≡ true → NoneIn key w r 16) → x ≡ true → Outer g v key w found (r + 16)
-outer_skip g v key w {found} {r} o e q = record { clear = o.clear; below = record { passed = λ j l c. go j l c (ltb j r) refl } }
-  where
-    go : (j : ℕ) → j < r + 16 → j < g.count → (b : Bool) → ltb j r ≡ b → get_or key j 0 ≡ w → ⊥
-    go j l c true p = o.below.passed j (ltb-true j r p) c
-    go j l c false p = (e q).passed j (ltb-false j r p) (omega arith)
+  -- those of sixteen rules are others
+  pub below_skip : {x : Bool} → (x ≡ true → NoneIn key w r 16) → x ≡ true → NoneBelow key count w (r + 16)
+  below_skip e q = record { passed = λ j l c. go j l c (ltb j r) refl }
+    where
+      go : (j : ℕ) → j < r + 16 → j < count → (b : Bool) → ltb j r ≡ b → get_or key j 0 ≡ w → ⊥
+      go j l c true p = o.passed j (ltb-true j r p) c
+      go j l c false p = (e q).passed j (ltb-false j r p) (omega arith)
 
 -- the rule's number is the one looked for
-here : (key : List ℕ) (w r : ℕ) {x : Bool} → x ≡ pick (eqb (get_or key r 0) w) false true → x ≡ false → get_or key r 0 ≡ w
+pub here : (key : List ℕ) (w r : ℕ) {x : Bool} → x ≡ pick (eqb (get_or key r 0) w) false true → x ≡ false → get_or key r 0 ≡ w
 here key w r e q = go (eqb (get_or key r 0) w) refl (sym e ∙ q)
   where
     go : (b : Bool) → eqb (get_or key r 0) w ≡ b → pick b false true ≡ false → get_or key r 0 ≡ w
@@ -134,22 +128,20 @@ row_all : (v : List ℕ) (pool : List ℤ) (s : Rest) (b c d : ℕ) → meets v 
 row_all v pool s b c d = let q : b + c + d - b ≡ c + d = omega arith in rw q
 
 module _ (g : Rules) (r : ℕ) where
-  pub weighted_row : Readable g → r < g.count → {u : Bool} → u ≡ is_weighted (row_of g r).body → u ≡ true → RowWeighs g.pool (row_of g r)
-  weighted_row f c eu tu =
-      let z : is_weighted (row_of g r).body ≡ true = sym eu ∙ tu in
-      record { weighted = z; single = f.single r c; inside = f.weighed r c z; small = f.small r c }
+  pub weighted_row : Readable g → r < g.count → is_weighted (row_of g r).body ≡ true → RowWeighs g.pool (row_of g r)
+  weighted_row f c z = record { weighted = z; single = f.single r c; inside = f.weighed r c z; small = f.small r c }
 
 module _ (g : Rules) (v key : List ℕ) (w r : ℕ) where
   short : Told g v key → w ≤ 1 → r < g.count → get_or key r 0 ≡ w → rest_of g v r ≡ Off → ⊥
   short t l h e = not_off (rest_of g v r) (get_or key r 0) (t.each r h) (omega arith)
 
-  pub inner_start : Readable g → Told g v key → w ≤ 1 → r < g.count → {u : Bool} → u ≡ is_weighted (row_of g r).body → u ≡ false → {x : Bool} → x ≡ pick (eqb (get_or key r 0) w) false true → x ≡ false
-      → {k h b : ℕ} → k ≡ (row_of g r).first → h ≡ (row_of g r).heads → b ≡ (row_of g r).literals → Inner g v r (k + h) (k + h + b) k
-  inner_start f t l c eu fu e q ek eh eb = rw (ek, eh, eb) (record {
+  pub inner_start : Readable g → Told g v key → w ≤ 1 → r < g.count → get_or key r 0 ≡ w → is_weighted (row_of g r).body ≡ false
+      → {k mid e : ℕ} → k ≡ (row_of g r).first → mid ≡ (row_of g r).first + (row_of g r).heads → e ≡ (row_of g r).literals → Inner g v r mid (mid + e) k
+  inner_start f t l c q u ek em ee = rw (ek, em, ee) (record {
     inside = f.inside r c;
     last = refl;
     from = omega arith;
-    rest = row_all v g.pool All (row_of g r).first (row_of g r).heads (row_of g r).literals ∙ normal (is_weighted (row_of g r).body) (sym eu ∙ fu) (short t l c (here key w r e q));
+    rest = row_all v g.pool All (row_of g r).first (row_of g r).heads (row_of g r).literals ∙ normal (is_weighted (row_of g r).body) u (short t l c q);
   })
     where
       go : (b : Bool) → is_choice (row_of g r).head ≡ b → (meets v (pick b Off All) (conditions g.pool (row_of g r)) ≡ Off → ⊥) → meets v All (conditions g.pool (row_of g r)) ≡ meets v (pick b Off All) (conditions g.pool (row_of g r))
@@ -162,15 +154,12 @@ module _ (g : Rules) (v key : List ℕ) (w r : ℕ) where
       normal false z n = go (is_choice (row_of g r).head) refl n
 
   -- order 2: a rule with a weighted body
-  pub weighted_here : Told g v key → w ≤ 1 → {found : Found} → Outer g v key w found r → r < g.count → {u : Bool} → u ≡ is_weighted (row_of g r).body → u ≡ true → {x : Bool} → x ≡ pick (eqb (get_or key r 0) w) false true → x ≡ false
-      → {s : Rest} → s ≡ both_rest (head_rest g.pool v (row_of g r)) (weighted_rest g.pool v (row_of g r)) → {f : Found} → f ≡ spotted_of s r → Spotted g v key w f r
-  weighted_here t l o c eu tu e q {s} es ef = rw ef (record { below = o.below; says = go s (rest ∙ sym es) })
+  pub weighted_here : Told g v key → w ≤ 1 → r < g.count → get_or key r 0 ≡ w → is_weighted (row_of g r).body ≡ true
+      → {s : Rest} → s ≡ both_rest (head_rest g.pool v (row_of g r)) (weighted_rest g.pool v (row_of g r)) → {f : Found} → f ≡ spotted_of s r → SpotSays g v w f r
+  weighted_here t l c number u {s} es ef = rw ef (go s (rest ∙ sym es))
     where
       rest : rest_of g v r ≡ both_rest (head_rest g.pool v (row_of g r)) (weighted_rest g.pool v (row_of g r))
-      rest = let z : is_weighted (row_of g r).body ≡ true = sym eu ∙ tu in rw z
-
-      number : get_or key r 0 ≡ w
-      number = here key w r e q
+      rest = rw u
 
       go : (s : Rest) → rest_of g v r ≡ s → SpotSays g v w (spotted_of s r) r
       go All z = let y : Tells All (get_or key r 0) = rw z at (t.each r c) in (refl, c, sym number ∙ y, z)
@@ -229,16 +218,16 @@ module _ {g : Rules} {v : List ℕ} {r mid end k : ℕ} where
       }
 
   -- its conditions are done: all are true
-  pub broken_here : (key : List ℕ) (w : ℕ) {found : Found} → Outer g v key w found r → Inner g v r mid end k → end ≤ k → Told g v key → r < g.count → {x : Bool} → x ≡ pick (eqb (get_or key r 0) w) false true → x ≡ false → Spotted g v key w (Broken r) r
-  broken_here key w o i h t c e q =
+  pub broken_here : (key : List ℕ) (w : ℕ) → Inner g v r mid end k → end ≤ k → Told g v key → r < g.count → get_or key r 0 ≡ w → SpotSays g v w (Broken r) r
+  broken_here key w i h t c q =
       let z : rest_of g v r ≡ All = sym i.rest ∙ cond_none v All g.pool mid k end h in
       let y : Tells All (get_or key r 0) = rw z at (t.each r c) in
-      record { below = o.below; says = (refl, c, sym (here key w r e q) ∙ y, z) }
+      (refl, c, sym q ∙ y, z)
 
   -- one is not true: it is undecided, and no other is
-  pub breaker_here : (key : List ℕ) (w : ℕ) {found : Found} → Outer g v key w found r → Inner g v r mid end k → k < end → Told g v key → w ≤ 1 → r < g.count → {x : Bool} → x ≡ pick (eqb (get_or key r 0) w) false true → x ≡ false
-      → {s : Rest} → s ≡ meet_of v All (cond_at g.pool mid k) → {y : Bool} → y ≡ is_all s → y ≡ false → {f : Found} → f ≡ note_of Clear s → Spotted g v key w f r
-  breaker_here key w o i h t l c e q {s} es ey qy ef = rw ef (record { below = o.below; says = go s es (sym ey ∙ qy) })
+  pub breaker_here : (key : List ℕ) (w : ℕ) → Inner g v r mid end k → k < end → Told g v key → w ≤ 1 → r < g.count → get_or key r 0 ≡ w
+      → {s : Rest} → s ≡ meet_of v All (cond_at g.pool mid k) → {y : Bool} → y ≡ is_all s → y ≡ false → {f : Found} → f ≡ note_of Clear s → SpotSays g v w f r
+  breaker_here key w i h t l c q {s} es ey qy ef = rw ef (go s es (sym ey ∙ qy))
     where
       rest : rest_of g v r ≡ meets v (meet_of v All (cond_at g.pool mid k)) (span (cond_at g.pool mid) (k + 1) (end - (k + 1)))
       rest = sym i.rest ∙ cond_more v All g.pool mid k end h
@@ -247,10 +236,10 @@ module _ {g : Rules} {v : List ℕ} {r mid end k : ℕ} where
       go All p n = absurd (clash (sym n))
       go (One x) p n =
           let a : rest_of g v r ≡ meets v (One x) (span (cond_at g.pool mid) (k + 1) (end - (k + 1))) = rest ∙ ap (λ (z : Rest). meets v z (span (cond_at g.pool mid) (k + 1) (end - (k + 1)))) (sym p) in
-          let b : rest_of g v r ≡ One x = stays_is x (rest_of g v r) (rw a (one_stays v x (One x) (span (cond_at g.pool mid) (k + 1) (end - (k + 1))) alone)) (short g v key w r t l c (here key w r e q)) in
+          let b : rest_of g v r ≡ One x = stays_is x (rest_of g v r) (rw a (one_stays v x (One x) (span (cond_at g.pool mid) (k + 1) (end - (k + 1))) alone)) (short g v key w r t l c q) in
           let y : Tells (One x) (get_or key r 0) = rw b at (t.each r c) in
-          (c, sym (here key w r e q) ∙ y, b)
-      go Off p n = absurd (short g v key w r t l c (here key w r e q) (rest ∙ ap (λ (z : Rest). meets v z (span (cond_at g.pool mid) (k + 1) (end - (k + 1)))) (sym p) ∙ off_stays v (span (cond_at g.pool mid) (k + 1) (end - (k + 1)))))
+          (c, sym q ∙ y, b)
+      go Off p n = absurd (short g v key w r t l c q (rest ∙ ap (λ (z : Rest). meets v z (span (cond_at g.pool mid) (k + 1) (end - (k + 1)))) (sym p) ∙ off_stays v (span (cond_at g.pool mid) (k + 1) (end - (k + 1)))))
 
 pub spotted_all : (s : Rest) (r : ℕ) → s ≡ All → Broken r ≡ spotted_of s r
 spotted_all s r e = rw e
@@ -261,28 +250,14 @@ spotted_one s r e = rw e
 pub spotted_off : (s : Rest) (r : ℕ) → s ≡ Off → Clear ≡ spotted_of s r
 spotted_off s r e = rw e
 
-pub clear_here : {g : Rules} {v key : List ℕ} {w : ℕ} {found : Found} {r : ℕ} → Outer g v key w found r → g.count ≤ r → Spotted g v key w found r
-clear_here o h = rw o.clear (record { below = o.below; says = h })
+-- ---- what the calls ask
 
--- ---- what the calls and sums ask
+module _ {g : Rules} {v : List ℕ} {r mid end k : ℕ} (i : Inner g v r mid end k) where
+  pub place_in : k < end → k < length g.pool
+  place_in h = omega (arith, i.inside)
 
-module _ (g : Rules) {r : ℕ} where
-  pub row_in : Readable g → r < g.count → r < length g.rows
-  row_in f h = omega (arith, f.long)
-
-module _ (g : Rules) {r k h : ℕ} where
-  pub mid_in_lem : Readable g → r < g.count → length g.pool < 2 ^ 64 → k ≡ (row_of g r).first → h ≡ (row_of g r).heads → Fits w64 (k + h)
-  mid_in_lem f l z ek eh = omega (arith, f.inside r l)
-
-  pub end_in : {b : ℕ} → Readable g → r < g.count → length g.pool < 2 ^ 64 → k ≡ (row_of g r).first → h ≡ (row_of g r).heads → b ≡ (row_of g r).literals → Fits w64 (k + h + b)
-  end_in f l z ek eh eb = omega (arith, f.inside r l)
-
-module _ {pool : List ℤ} {rows : List Row} {count : ℕ} {v : List ℕ} {r mid end k : ℕ} where
-  pub place_in : Inner (rules pool rows count) v r mid end k → k < end → k < length pool
-  place_in i h = omega (arith, i.inside)
-
-  pub literal_in : Inner (rules pool rows count) v r mid end k → Readable (rules pool rows count) → r < count → k < end → nat_abs (get_or pool k (pos 0)) ≤ 1024
-  literal_in i f l h = f.small r l k i.from (omega (arith, i.last))
+  pub literal_in : Readable g → r < g.count → k < end → nat_abs (get_or g.pool k (pos 0)) ≤ 1024
+  literal_in f l h = f.small r l k i.from (omega (arith, i.last))
 
 -- ---- the scan by the numbers is the scan of all rules
 

@@ -1,6 +1,7 @@
 -- The ways that a test and a step go, from what their calls say. Assumes nothing.
 use mathlib.Core.Path.{◌≡◌, refl, ap, ◌∙◌}
 use mathlib.Core.Bool.{Bool, true, false}
+use mathlib.Core.Logic.{◌⊎◌, inl, inr}
 use mathlib.Core.List.{List}
 use Prim.Native.Nat.{ℕ, zero, suc, ◌+◌, ◌≤◌, ◌<◌}
 use native.Mathlib.Omega.{arith}
@@ -26,10 +27,10 @@ use Rattle.search.specs.Step.{unbroken, test_by, test_of, stepped, step_of}
 use Rattle.search.proofs.Formed.{readable}
 use Rattle.search.proofs.StepLaws.{step_broken, step_full, step_violated, step_open, open_small}
 use Rattle.counting.specs.declared.counters.Marks.{Marks}
-use Rattle.counting.specs.declared.counters.Index.{Index}
+use Rattle.counting.specs.declared.index.Index.{Index}
 use Rattle.counting.specs.declared.counters.Counters.{Counters}
-use Rattle.counting.specs.Counters.{index, counters, marks, Bodies, bodies, first, list_length}
-use Rattle.counting.specs.Moves.{CountedTrail, counted_trail, Weighable, Fit, put_all, drop_all, back_all_from, back_all}
+use Rattle.counting.specs.Counters.{counters, marks, Bodies, bodies, first, list_length}
+use Rattle.counting.specs.Moves.{CountedTrail, counted_trail, put_all, drop_all, back_all_from, back_all}
 use Rattle.counting.specs.Counts.{times_in, MarksRight, Tracks, Indexed, Told}
 use Rattle.counting.proofs.Sums.{sum_part}
 use Rattle.counting.proofs.Telling.{told}
@@ -50,24 +51,6 @@ module _ (n : ℕ) (s : AssumedEntries) (v : List ℕ) (len : ℕ) {f : Found} w
 pub test_done : (g : Rules) (n : ℕ) (s : AssumedEntries) (v : List ℕ) (len : ℕ) {f : Found} → f ≡ scan_of g v → {x : Tested} → x ≡ test_by n s v len f → x ≡ test_of g n s v len
 test_done g n s v len e q = q ∙ ap (test_by n s v len) e
 
--- the rows of the weighted bodies can be read
-pub indexed_weighable : {g : Rules} {o : Index} → Indexed g o → Readable g → Weighable (bodies g.pool g.rows) o
-indexed_weighable {g} {o} i f = record {
-  each = λ a e h p q.
-      let r = get_or o.rules e 0 in
-      let c : get_or o.rules e 0 < g.count = i.inside (2050 + a) e (omega arith) p q in
-      let w : is_weighted (row_of g (get_or o.rules e 0)).body ≡ true = i.bodied (get_or o.rules e 0) a c h (some a e p q) in
-      record {
-        long = omega (arith, f.long);
-        row = record { weighted = w; single = f.single (get_or o.rules e 0) c; inside = f.weighed (get_or o.rules e 0) c w; small = f.small (get_or o.rules e 0) c };
-      };
-}
-  where
-    some : (a e : ℕ) → first o (2050 + a) ≤ e → e < first o (2050 + a) + list_length o (2050 + a) → times_in o (get_or o.rules e 0) (2050 + a) ≡ 0 → ⊥
-    some a e p q z =
-        let y = sum_part (λ x. ind (eqb (get_or o.rules x 0) (get_or o.rules e 0))) e (first o (2050 + a)) (list_length o (2050 + a)) p q in
-        omega (arith, rw (eq-eqb (get_or o.rules e 0) (get_or o.rules e 0) refl) at y)
-
 module _ {pool : List ℤ} {rows : List Row} {count : ℕ} {o : Index} {v : List ℕ} {t : Counters} where
   pub counted_told : Indexed (rules pool rows count) o → Tracks (rules pool rows count) o v t → Told (rules pool rows count) v t.key
   counted_told i k = told (rules pool rows count) o i v t k
@@ -80,13 +63,6 @@ module _ {pool : List ℤ} {rows : List Row} {count : ℕ} {o : Index} {v : List
 
   pub counted_below : Tracks (rules pool rows count) o v t → DecidedBelow v t.marks.atom
   counted_below k = k.below
-
-pub counted_fit : {pool : List ℤ} {rows : List Row} {count n : ℕ} {o : Index} {p : Places} {t : Counters} → Indexed (rules pool rows count) o → Tracks (rules pool rows count) o p.value t → Good p → Formed n pool rows count
-    → Fit (bodies pool rows) o p.value t.key
-counted_fit {pool} {rows} {count} {n} i k g f = record { weighable = indexed_weighable i (readable n pool rows count f); shaped = i.shaped; value_len = g.value_len; key_len = k.marked.long }
-
-pub indexed_few : {pool : List ℤ} {rows : List Row} {count : ℕ} {o : Index} → Indexed (rules pool rows count) o → count ≤ 2048
-indexed_few i = i.few
 
 -- ---- the trail after a move is the one of the machine
 
@@ -116,6 +92,10 @@ module _ (g : Rules) (n : ℕ) (s : AssumedEntries) (t : Places) (bs : Bodies) (
 
   pub after_violated : x ≡ test_of g n s t.value t.len → {i : ℕ} → x ≡ SoftViolated i → {t₁ : Places} {y₁ : Counters} → counted_trail t₁ y₁ ≡ back_all bs o (counted_trail t y) → stepped x t₁ ≡ step_of g n s t
   after_violated e q z = step_violated g n s t e q (ap (λ (h : CountedTrail). h.trail) z ∙ back_trail bs o t.len (counted_trail t y))
+
+  pub after_cut : x ≡ test_of g n s t.value t.len → ((r : ℕ) × (x ≡ RuleBroken r)) ⊎ ((i : ℕ) × (x ≡ SoftViolated i)) → {t₁ : Places} {y₁ : Counters} → counted_trail t₁ y₁ ≡ back_all bs o (counted_trail t y) → stepped x t₁ ≡ step_of g n s t
+  after_cut e (inl q) z = after_broken e q.1 z
+  after_cut e (inr q) z = after_violated e q.1 z
 
 pub after_full : (g : Rules) (n : ℕ) (s : AssumedEntries) (t : Places) {x : Tested} → x ≡ test_of g n s t.value t.len → x ≡ Full → stepped x t ≡ step_of g n s t
 after_full g n s t e q = step_full g n s t e q

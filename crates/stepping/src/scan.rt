@@ -1,13 +1,15 @@
 // The scan over rules and their literals, left at the first broken rule. A rule whose number says that neither is it broken nor has it a single literal left is passed over.
 ghost use Rattle.std.specs.Prelude.{◌≡◌, ℕ, ◌+◌, ◌*◌, ◌<◌, ◌≤◌, true, false, eqb, pos, nat_abs, length, get_or};
 ghost use Rattle.asp.specs.Sets.{pick};
-ghost use Rattle.search.specs.Scan.{rules, Readable, cond_at, meet_of, note_of, scan_of};
+ghost use Rattle.asp.specs.Tables.{is_weighted, row_at};
+ghost use Rattle.search.specs.Scan.{cond_at, meet_of, note_of, scan_of};
+ghost use Rattle.search.specs.Lent.{rules_lent};
 ghost use Rattle.counting.specs.Counters.{counters, marks};
-ghost use Rattle.counting.specs.Counts.{Told, MarksRight, NoneBelow, NoneIn, spotted_of, Spotted};
+ghost use Rattle.counting.specs.Counts.{Told, MarksRight, NoneBelow, NoneIn, SpotSays, spotted_of, Spotted};
 
-use asp::rules::Row;
-use counting::counters::Marks;
-use counting::weigh;
+use counting::counters::{Counters, Marks};
+use counting::listed::Listed;
+use counting::weigh::WeightedRule;
 use search::scan;
 use search::scan::{Found, Rest};
 
@@ -127,6 +129,47 @@ fn spotted(rest: Rest, r: usize) -> Found
     }
 }
 
+// The first condition of rule r, whose number is `want`, that is not true; without one the rule is broken.
+fn by_conditions(
+    g: &Listed<'_>,
+    key: &[u16; 2048],
+    want: u16,
+    r: usize,
+    value: &[u8; 1025],
+) -> Found
+    requires told { Told (rules_lent g.now.rules) value.now key.now }
+    requires sought { (r < length g.now.rules.rows.now) × (want ≤ 1) × (get_or key.now r 0 ≡ want) }
+    requires normal { is_weighted (row_at g.now.rules.rows.now r).body ≡ false }
+    ensures { SpotSays (rules_lent g.now.rules) value.now want result r }
+{
+    let row = g.rules.rows[r];
+    let mid = row.body_first();
+    for k in usize::from(row.first)..mid + usize::from(row.literals) {
+        let rest = left_at(g.rules.pool, value, mid, k);
+        if !rest.is_all() {
+            return noted(rest);
+        }
+    }
+    Found::Broken(r)
+}
+
+// What is found of rule r, whose number is `want`.
+fn found_at(g: &Listed<'_>, key: &[u16; 2048], want: u16, r: usize, value: &[u8; 1025]) -> Found
+    requires told { Told (rules_lent g.now.rules) value.now key.now }
+    requires sought { (r < length g.now.rules.rows.now) × (want ≤ 1) × (get_or key.now r 0 ≡ want) }
+    ensures { SpotSays (rules_lent g.now.rules) value.now want result r }
+{
+    let row = g.rules.rows[r];
+    if !row.body.is_weighted() {
+        return by_conditions(g, key, want, r, value);
+    }
+    let rule = WeightedRule {
+        pool: g.rules.pool,
+        row,
+    };
+    spotted(rule.rest(value), r)
+}
+
 // What the scan found, and the rule at which it was left.
 #[derive(Clone, Copy, PartialEq, Eq, Debug)]
 pub struct Spot {
@@ -135,73 +178,48 @@ pub struct Spot {
 }
 
 // The scan for the first rule with the number `want`, from `start` on.
-fn first_with<'a>(
-    pool: &'a [i32],
-    rows: &'a [Row],
-    count: usize,
-    key: &'a [u16; 2048],
+fn first_with(
+    g: &Listed<'_>,
+    key: &[u16; 2048],
     want: u16,
     start: usize,
-    value: &'a [u8; 1025],
+    value: &[u8; 1025],
 ) -> Spot
-    requires readable { Readable (rules pool.now rows.now count) × Told (rules pool.now rows.now count) value.now key.now × (length key.now ≡ 2048) × (count ≤ 2048) × (want ≤ 1) }
-    requires none_below { NoneBelow key.now count want start }
-    ensures { Spotted (rules pool.now rows.now count) value.now key.now want result.found result.rule }
+    requires told { Told (rules_lent g.now.rules) value.now key.now × (want ≤ 1) }
+    requires none_below { NoneBelow key.now (length g.now.rules.rows.now) want start }
+    ensures { Spotted (rules_lent g.now.rules) value.now key.now want result.found result.rule }
 {
-    let mut found = Found::Clear;
     let mut r = start;
-    'rules: while r < count {
+    while r < g.rules.rows.len() {
         if may_skip(key, r, want) {
             r += 16;
-            continue 'rules;
+            continue;
         }
         if differs(key, r, want) {
             r += 1;
-            continue 'rules;
+            continue;
         }
-        let row = rows[r];
-        if row.body.is_weighted() {
-            found = spotted(weigh::rest(pool, row, value), r);
-            break 'rules;
-        }
-        let first = usize::from(row.first);
-        let mid = first + usize::from(row.heads);
-        let end = mid + usize::from(row.literals);
-        let mut k = first;
-        loop {
-            if end <= k {
-                found = Found::Broken(r);
-                break 'rules;
-            }
-            let rest = left_at(pool, value, mid, k);
-            if rest.is_all() {
-                k += 1;
-                continue;
-            }
-            found = noted(rest);
-            break 'rules;
-        }
+        let found = found_at(g, key, want, r, value);
+        return Spot { found, rule: r };
     }
-    Spot { found, rule: r }
+    Spot {
+        found: Found::Clear,
+        rule: r,
+    }
 }
 
 // The scan of the rules under the values of a trail, by their numbers.
-pub fn scan<'a>(
-    pool: &'a [i32],
-    rows: &'a [Row],
-    count: usize,
-    key: &'a [u16; 2048],
-    m: Marks,
-    value: &'a [u8; 1025],
-) -> ScanDone
-    requires { Readable (rules pool.now rows.now count) × Told (rules pool.now rows.now count) value.now key.now × MarksRight count (counters key.now m) × (count ≤ 2048) }
-    ensures { (result.found ≡ scan_of (rules pool.now rows.now count) value.now) × MarksRight count (counters key.now (marks m.broken result.low result.zero m.atom)) }
+pub fn scan(g: &Listed<'_>, t: &Counters, value: &[u8; 1025]) -> ScanDone
+    requires told { Told (rules_lent g.now.rules) value.now t.now.key }
+    requires marked { MarksRight (length g.now.rules.rows.now) t.now }
+    ensures found { result.found ≡ scan_of (rules_lent g.now.rules) value.now }
+    ensures marked { MarksRight (length g.now.rules.rows.now) (counters t.now.key (marks t.now.marks.broken result.low result.zero t.now.marks.atom)) }
 {
-    let want = sought(m.broken);
-    let s = first_with(pool, rows, count, key, want, start(m), value);
+    let m = t.marks;
+    let s = first_with(g, &t.key, sought(m.broken), start(m), value);
     ScanDone {
         found: s.found,
         low: lowest(m, s.rule),
-        zero: lowest_zero(m, count, s.rule),
+        zero: lowest_zero(m, g.rules.rows.len(), s.rule),
     }
 }

@@ -1,5 +1,6 @@
+use lib.ListN.{length}
 use Rattle.indexing.proofs.FillLaws.{Basing}
 use Rattle.indexing.proofs.fill.start.Given as goal
 
 abbrev pub invariant-loop-r : goal.invariant-loop-r
-invariant-loop-r l = Basing l.pool l.rows l.value l.count l.key l.broken l.r
+invariant-loop-r l = Basing l.g.rules.pool.now l.g.rules.rows.now l.value (length l.g.rules.rows.now) l.key l.broken l.r

@@ -2,5 +2,8 @@ use Rattle.stepping.proofs.ScanLaws.{scan_done, low_next}
 use borrow.Author.Rules.{rules}
 use Rattle.stepping.proofs.scan.scan.Goals as goal
 
-pub returns : goal.returns
-returns c = (search (scan_done, rules), search (low_next, rules))
+pub returns-clause-found : goal.returns-clause-found
+returns-clause-found c = search (scan_done, rules)
+
+pub returns-clause-marked : goal.returns-clause-marked
+returns-clause-marked c = search (low_next, rules)

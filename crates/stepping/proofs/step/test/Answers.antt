@@ -1,12 +1,14 @@
 use Rattle.std.proofs.Common.{rules}
-use Rattle.stepping.proofs.StepLaws.{counted_told, counted_marked, indexed_few}
+use Rattle.stepping.proofs.StepLaws.{counted_told, counted_marked}
 use Rattle.search.proofs.Formed.{readable}
 use Rattle.search.proofs.NotedLaws.{found_noted}
 use Rattle.stepping.proofs.step.test.Goals as goal
 
-pub scan-s-requires : goal.scan-s-requires
-scan-s-requires c =
-    (search (readable, rules), counted_told c.requires.indexed.0 c.requires.indexed.1, counted_marked c.requires.indexed.1, indexed_few c.requires.indexed.0)
+pub scan-s-requires-clause-told : goal.scan-s-requires-clause-told
+scan-s-requires-clause-told c = counted_told c.args.g.now.indexed c.requires
+
+pub scan-s-requires-clause-marked : goal.scan-s-requires-clause-marked
+scan-s-requires-clause-marked c = counted_marked c.requires
 
 pub test_by-requires-clause-noted : goal.test_by-requires-clause-noted
 test_by-requires-clause-noted c = search (found_noted, readable, rules)

@@ -1,12 +1,8 @@
-use Rattle.stepping.proofs.MoveLaws.{back_next, back_here, back_none, dropped_shorter, dropped_len, dropped_fit, taken_small, other_small}
+use Rattle.stepping.proofs.MoveLaws.{back_next, back_here, back_none, dropped_shorter, dropped_len, taken_small, other_small}
 use Rattle.stepping.proofs.trail.back.Goals as goal
 
-pub put-requires-clause-len_bound : goal.put-requires-clause-len_bound
-put-requires-clause-len_bound c =
-    (dropped_len c.loop-trail.invariant c.loop-trail-test.true c.take-l.ensures.trail, other_small c.loop-trail.invariant c.loop-trail-test.true c.take-l.ensures.literal c.complement.ensures)
-
-pub put-requires-clause-fit : goal.put-requires-clause-fit
-put-requires-clause-fit c = dropped_fit c.loop-trail.invariant c.loop-trail-test.true c.take-l.ensures.trail
+pub put-requires : goal.put-requires
+put-requires c = (dropped_len c.loop-trail.invariant c.loop-trail-test.true c.take-l.ensures.trail, other_small c.loop-trail.invariant c.loop-trail-test.true c.take-l.ensures.literal c.complement.ensures)
 
 pub returns-then-mark-eq1 : goal.returns-then-mark-eq1
 returns-then-mark-eq1 c = back_here c.loop-trail.invariant c.loop-trail-test.true c.if-mark-eq1.true c.take-l.ensures.trail c.take-l.ensures.literal c.complement.ensures c.put.ensures
