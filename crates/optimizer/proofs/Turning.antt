@@ -8,6 +8,7 @@ use native.Mathlib.Omega.{arith}
 use lib.Dec.{eqb}
 use lib.IntN.{ℤ}
 use lib.ListN.{length}
+use Rattle.std.specs.Borrow.{Bor}
 use Rattle.asp.specs.Sets.{Set, set_of, pick}
 use Rattle.search.specs.declared.trail.Places.{Places}
 use Rattle.search.specs.Places.{SoundTrail, back_of}
@@ -99,8 +100,8 @@ module _ {S : Source} {q : QueryTables} (r : ReadyQuery S q) (t : Places) {b : B
   judged_good {p} z f = subst (GoodBlame q) (sym f) (place_good r g p (judged_place z))
 
 -- a step of the same query
-pub same_turn : {q r : Query} → r ≡ q → (t : Places) (b : Blame) {x : Turned} → x ≡ turn_of (source_lent r.ground) (query_lent r) t b → x ≡ turn_of (source_lent q.ground) (query_lent q) t b
-same_turn h t b e = e ∙ ap (λ (q : Query). turn_of (source_lent q.ground) (query_lent q) t b) h
+pub same_turn : {q r : Bor Query} → r ≡ q → (t : Places) (b : Blame) {x : Turned} → x ≡ turn_of (source_lent r.now.ground) (query_lent r.now) t b → x ≡ turn_of (source_lent q.now.ground) (query_lent q.now) t b
+same_turn h t b e = e ∙ ap (λ (q : Bor Query). turn_of (source_lent q.now.ground) (query_lent q.now) t b) h
 
 -- ---- steps in a loop
 

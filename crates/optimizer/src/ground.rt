@@ -3,9 +3,9 @@ ghost use Rattle.advancing.specs.Source.{levels_lent, FormedLevels, Prepared};
 ghost use Rattle.optimizer.specs.Tables.{source_by};
 ghost use Rattle.optimizer.specs.Alone.{formed_levels-prop};
 
-use crate::prepare::Preparation;
 use asp::cost::Objective;
-use asp::rules::RuleTable;
+use counting::index::Index;
+use counting::listed::Listed;
 
 // An objective within document 01's limits: levels, entries, and the weight of each.
 #[derive(Clone, Copy)]
@@ -14,10 +14,12 @@ pub struct Limited<'a> {
     pub ghost formed: { FormedLevels (levels_lent objective) } by { formed_levels-prop _ },
 }
 
+// The rules with their lists by condition, their lists by head atom, the atoms that a free branch tries in first, and what is to be optimized.
 #[derive(Clone, Copy)]
 pub struct Ground<'a> {
-    pub rules: RuleTable<'a>,
+    pub listed: Listed<'a>,
+    pub heads: &'a Index,
+    pub tried: &'a [u8; 1025],
     pub limited: Limited<'a>,
-    pub prepared: &'a Preparation,
-    ghost ready: { Prepared (source_by rules limited.objective) prepared.now.conditions prepared.now.heads prepared.now.tried },
+    ghost ready: { Prepared (source_by listed.rules limited.objective) listed.lists.now heads.now tried.now },
 }

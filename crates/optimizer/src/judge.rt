@@ -4,7 +4,7 @@ ghost use Rattle.asp.specs.Sets.{set_of};
 ghost use Rattle.asp.specs.Literal.{same_ℤ};
 ghost use Rattle.asp.specs.Program.{All};
 ghost use Rattle.asp.specs.Cost.{cost, level};
-ghost use Rattle.advancing.specs.Turn.{settled_from, in_class, soft_or_wanted, judge_full};
+ghost use Rattle.advancing.specs.Turn.{settled_from, soft_or_wanted, judge_full};
 ghost use Rattle.advancing.specs.Ready.{softs};
 ghost use Rattle.optimizer.specs.Lent.{source_lent, query_lent, LeafFor};
 
@@ -13,7 +13,7 @@ use advancing::state::Judgement;
 use asp::atoms::AtomSet;
 use asp::cost::Objective;
 use counting::counters::Counters;
-use indexing::leaf;
+use indexing::leaf::FullTrail;
 
 // Whether a set costs on level l what that is settled at.
 fn is_settled_at(objective: &Objective<'_>, l: usize, m: AtomSet<'_>, lowers: &[i64; 8]) -> bool
@@ -47,36 +47,28 @@ fn soft_or_wanted(j: Option<usize>) -> Judgement
 }
 
 impl Query<'_> {
-    // Stable, with the settled costs.
-    fn in_class(&self, value: &[u8; 1025], counters: &Counters) -> bool
-        requires leaf { LeafFor self.now.ground value.now counters.now }
-        ensures { result ≡ in_class (source_lent self.now.ground) self.now.level self.now.lowers.now (set_of value.now) }
-    {
-        let rules = self.ground.rules;
-        let stable = leaf::is_stable(
-            rules.pool,
-            rules.rows,
-            rules.rows.len(),
-            rules.atoms,
-            &self.ground.prepared.conditions,
-            &self.ground.prepared.heads,
-            value,
-            counters,
-        );
-        let objective = &self.ground.limited.objective;
-        stable && is_settled(objective, self.level, AtomSet { bytes: value }, self.lowers)
-    }
-
     // The judgement of a full trail: by the rules and the settled costs, and then by the soft literals, those that are blamed already first.
-    pub fn judge_full(&self, blamed: &[u16], value: &[u8; 1025], counters: &Counters) -> Judgement
+    pub fn judge_full(
+        &self,
+        blamed: &[u16],
+        value: &[u8; 1025],
+        counters: &Counters,
+    ) -> Judgement
         requires inside { All (λ m. m < softs (query_lent self.now)) blamed.now }
         requires leaf { LeafFor self.now.ground value.now counters.now }
         ensures { result ≡ judge_full (source_lent self.now.ground) (query_lent self.now) blamed.now value.now }
     {
-        if !self.in_class(value, counters) {
+        let full = FullTrail {
+            listed: self.ground.listed,
+            heads: self.ground.heads,
+            value,
+            counters,
+        };
+        let set = AtomSet { bytes: value };
+        let objective = &self.ground.limited.objective;
+        if !full.is_stable() || !is_settled(objective, self.level, set, self.lowers) {
             return Judgement::Dead;
         }
-        let set = AtomSet { bytes: value };
         soft_or_wanted(self.cores.judge_both(blamed, self.assumed, set))
     }
 }

@@ -6,7 +6,8 @@ ghost use Rattle.optimizer.specs.Tables.{source_by};
 
 use asp::cost::Objective;
 use asp::rules::RuleTable;
-use counting::counters::Index;
+use counting::index::Index;
+use indexing::build::{By, Listing};
 
 // The rules by condition and by head atom; by atom, 1 for one to be tried in first.
 #[derive(Clone, Copy)]
@@ -20,11 +21,17 @@ pub fn prepare(rules: RuleTable<'_>, objective: Objective<'_>) -> Preparation
     requires { Readied (rule_tables (source_by rules objective)) }
     ensures { Prepared (source_by rules.entry objective.entry) result.conditions result.heads result.tried }
 {
-    let conditions = indexing::build::lists_of(rules.pool, rules.rows, rules.rows.len(), false);
-    let heads = indexing::build::lists_of(rules.pool, rules.rows, rules.rows.len(), true);
+    let by_condition = Listing {
+        rules,
+        by: By::Condition,
+    };
+    let by_head = Listing {
+        rules,
+        by: By::Head,
+    };
     Preparation {
-        conditions,
-        heads,
+        conditions: by_condition.lists(),
+        heads: by_head.lists(),
         tried: choosing::first::tried_first(rules, objective),
     }
 }

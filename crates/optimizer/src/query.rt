@@ -24,7 +24,7 @@ pub struct Query<'a> {
     pub spots: &'a [u16],
     pub assumed: &'a [u16],
     pub cores: Cores<'a>,
-    ghost ready: { ReadyQuery (source_by ground.rules ground.limited.objective) (query_tables level lowers.now wished.now spots.now assumed.now (tables_of cores)) } by { ready_query-prop _ _ },
+    ghost ready: { ReadyQuery (source_by ground.listed.rules ground.limited.objective) (query_tables level lowers.now wished.now spots.now assumed.now (tables_of cores)) } by { ready_query-prop _ _ },
 }
 
 impl Query<'_> {
@@ -37,19 +37,12 @@ impl Query<'_> {
     // Steps until the query ends or `budget` are made, by numbers that are filled anew.
     fn run(&self, blame: &mut Blame, trail: &mut Places, budget: u32) -> Steps
         requires good_blame { GoodBlame (query_lent self.now) blame.old }
-        requires sound_trail { SoundTrail self.now.ground.rules.atoms trail.old }
+        requires sound_trail { SoundTrail self.now.ground.listed.rules.atoms trail.old }
         ensures { turns (turned result.turn trail.new blame.new) result.made ≡ turns_of (source_lent self.now.ground) (query_lent self.now) budget trail.old blame.old }
     {
-        let rules = self.ground.rules;
-        let mut counters = fill::fill(
-            rules.pool,
-            rules.rows,
-            rules.rows.len(),
-            &self.ground.prepared.conditions,
-            &trail.value,
-        );
+        let mut counters = fill::fill(&self.ground.listed, &trail.value);
         let mut walk = Walk {
-            query: *self,
+            query: self,
             blame,
             trail,
             counters: &mut counters,
@@ -71,7 +64,7 @@ impl Ground<'_> {
     pub fn run_query(&self, w: &Work, blame: &mut Blame, trail: &mut Places, budget: u32) -> Steps
         requires ready_query { ReadyQuery (source_lent self.now) (work_query w.now) }
         requires good_blame { GoodBlame (work_query w.now) blame.old }
-        requires sound_trail { SoundTrail self.now.rules.atoms trail.old }
+        requires sound_trail { SoundTrail self.now.listed.rules.atoms trail.old }
         requires sound_tables { SoundTables w.now.tables }
         ensures { turns (turned result.turn trail.new blame.new) result.made ≡ turns_of (source_lent self.now) (work_query w.now) budget trail.old blame.old }
     {

@@ -6,4 +6,4 @@ use Rattle.optimizer.proofs.turn.Walk.turns.Given as goal
 abbrev pub invariant-loop-made : goal.invariant-loop-made
 invariant-loop-made l =
     let w = l.initial.self in
-    Same w l.self × Turned-on (source_lent w.query.ground) (query_lent w.query) l.budget w.trail.now w.blame.now l.self.trail.now l.self.blame.now l.made
+    Same w l.self × Turned-on (source_lent w.query.now.ground) (query_lent w.query.now) l.budget w.trail.now w.blame.now l.self.trail.now l.self.blame.now l.made
