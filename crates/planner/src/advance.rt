@@ -6,6 +6,7 @@ ghost use Rattle.planner.specs.Calls.{outcome, says, moved_to, advance_call, cou
 
 use crate::service::{Loaded, Refusal, Service, Status};
 use crate::tables;
+use counting::listed::Listed;
 use optimizer::ground::Ground;
 
 // How many advances were made, and the status after them.
@@ -21,10 +22,16 @@ impl Loaded {
         ensures moved { self.new ≡ moved_to self.old (ran self.old budget) }
         ensures count { result ≡ count_of (made self.old budget) (status_of (ran self.old budget).phase) }
     {
+        let rules = tables::rules(&self.stored);
+        let limited = tables::limited(&self.stored);
         let ground = Ground {
-            rules: tables::rules(&self.stored),
-            limited: tables::limited(&self.stored),
-            prepared: &self.prepared,
+            listed: Listed {
+                rules,
+                lists: &self.prepared.conditions,
+            },
+            heads: &self.prepared.heads,
+            tried: &self.prepared.tried,
+            limited,
         };
         let made = ground.run(&mut self.search, budget);
         Count {
