@@ -1,109 +1,117 @@
 // The machine of a query. The program and the lists of its rules are lent; the trail, the rules' numbers and the blame are its own.
-ghost use Rattle.std.specs.Prelude.{true, false, length};
-ghost use Rattle.search.specs.Scan.{rules};
+ghost use Rattle.std.specs.Prelude.{◌≡◌, false, replicate};
+ghost use Rattle.search.specs.Places.{SoundTrail, fresh_places};
+ghost use Rattle.search.specs.Lent.{rules_lent};
 ghost use Rattle.indexing.specs.Sorting.{Sorted};
-ghost use Rattle.search_traces.specs.Stored.{Running};
-ghost use Rattle.search_traces.specs.Alone.{running_prop};
+ghost use Rattle.counting.specs.Counts.{Tracks};
+ghost use Rattle.std.proofs.Props.{props};
+ghost use Rattle.search_traces.specs.Stored.{Wished};
+ghost use Rattle.search_traces.specs.Alone.{sound_prop};
 
 use crate::program::Program;
-use counting::counters::{Counters, Index};
-use indexing::{fill, machine};
-use search::soft;
+use counting::counters::Counters;
+use counting::index::Index;
+use counting::listed::Listed;
+use indexing::fill;
+use search::soft::Wishes;
 use search::step::Tested;
 use search::trail::Places;
 use std::fmt;
+use stepping::{step, trail};
 
 #[derive(Drop)]
 pub struct Machine<'a> {
-    pub program: Program<'a>,
-    // the rules by condition, and by head
-    pub conditions: &'a Index,
-    pub heads: &'a Index,
+    pub listed: Listed<'a>,
+    pub wished: &'a [i32],
+    pub models: &'a [u32],
     pub trail: Places,
     pub counters: Counters,
     // Kept: 1 where blamed, as `search` reads it
     pub blamed: [u8; 8],
-    pub ghost running: { Running program.table.atoms (rules program.table.pool.now program.table.rows.now (length program.table.rows.now)) conditions.now heads.now trail counters } by { running_prop _ _ _ _ _ _ },
+    pub ghost wishes: { Wished listed.rules.atoms wished.now } by { Prim.hlevel props },
+    pub ghost sound: { SoundTrail listed.rules.atoms trail } by { sound_prop _ _ },
+    pub ghost tracks: { Tracks (rules_lent listed.rules) listed.lists.now trail.value counters },
 }
 
 impl<'a> Machine<'a> {
     // At the empty trail.
-    pub fn new(program: Program<'a>, conditions: &'a Index, heads: &'a Index) -> Machine<'a>
-        requires conditions { Sorted false (rules program.table.pool.now program.table.rows.now (length program.table.rows.now)) conditions.now }
-        requires heads { Sorted true (rules program.table.pool.now program.table.rows.now (length program.table.rows.now)) heads.now }
+    pub fn new(program: Program<'a>, conditions: &'a Index) -> Machine<'a>
+        requires { Sorted false (rules_lent program.table) conditions.now }
+        ensures { (result.trail ≡ fresh_places) × (result.blamed ≡ replicate 8 0) }
     {
+        let listed = Listed {
+            rules: program.table,
+            lists: conditions,
+        };
         let trail = Places::fresh();
-        let counters = fill::fill(
-            program.table.pool,
-            program.table.rows,
-            program.table.rows.len(),
-            conditions,
-            &trail.value,
-        );
+        let counters = fill::fill(&listed, &trail.value);
         Machine {
-            program,
-            conditions,
-            heads,
+            listed,
+            wished: program.wished,
+            models: program.models,
             trail,
             counters,
             blamed: [0; 8],
         }
     }
+}
+
+impl Machine<'_> {
+    ghost use Rattle.std.specs.Prelude.{◌≡◌, ◌<◌, set};
+    ghost use Rattle.search.specs.Places.{back_of};
+    ghost use Rattle.search.specs.Soft.{violated_of};
+    ghost use Rattle.search.specs.Step.{stepped, step_of};
+    ghost use Rattle.search.specs.Lent.{rules_lent};
+    ghost use Rattle.search_traces.specs.Asked.{wishes_of, SameQuery};
 
     // One step. No atom is to be tried in first.
-    pub fn step(&mut self) -> Tested {
-        let tried = [0; 1025];
-        machine::step(
-            self.program.table.pool,
-            self.program.table.rows,
-            self.program.table.rows.len(),
-            self.conditions,
-            self.heads,
-            self.program.table.atoms,
-            &tried,
-            self.program.wished,
-            &self.blamed,
-            self.program.wished.len(),
-            &mut self.trail,
-            &mut self.counters,
-        )
+    pub fn step(&mut self) -> Tested
+        ensures stepped { stepped result self.new.trail ≡ step_of (rules_lent self.old.listed.rules) self.old.listed.rules.atoms (wishes_of self.old) self.old.trail }
+        ensures same { SameQuery self.old self.new }
+    {
+        let wishes = Wishes {
+            atoms: self.listed.rules.atoms,
+            literals: self.wished,
+            blamed: &self.blamed,
+            tried: &[0; 1025],
+        };
+        step::step(&self.listed, &wishes, &mut self.trail, &mut self.counters)
     }
 
     // Back to the last decision, which is flipped.
-    pub fn back(&mut self) {
-        machine::back(
-            self.program.table.pool,
-            self.program.table.rows,
-            self.program.table.rows.len(),
-            self.conditions,
-            self.heads,
-            &mut self.trail,
-            &mut self.counters,
-        );
+    pub fn back(&mut self)
+        ensures back { self.new.trail ≡ back_of self.old.trail }
+        ensures same { SameQuery self.old self.new }
+    {
+        trail::back(&self.listed, &mut self.trail, &mut self.counters);
     }
 
     // The wish that the trail violates.
-    pub fn violated(&self) -> Option<usize> {
-        let tried = [0; 1025];
-        soft::violated(
-            &tried,
-            self.program.wished,
-            &self.blamed,
-            self.program.wished.len(),
-            &self.trail.value,
-        )
+    pub fn violated(&self) -> Option<usize>
+        ensures { result ≡ violated_of (wishes_of self.now) self.now.trail.value }
+    {
+        let wishes = Wishes {
+            atoms: self.listed.rules.atoms,
+            literals: self.wished,
+            blamed: &self.blamed,
+            tried: &[0; 1025],
+        };
+        wishes.violated(&self.trail.value)
     }
 
-    // The wish at i is blamed.
-    pub fn blame(&mut self, i: usize) {
-        if let Some(blamed) = self.blamed.get_mut(i) {
-            *blamed = 1;
+    // The wish at i is blamed; the table has eight.
+    pub fn blame(&mut self, i: usize)
+        ensures blamed { i < 8 → self.new.blamed ≡ set self.old.blamed i 1 }
+        ensures trail { self.new.trail ≡ self.old.trail }
+    {
+        if i < 8 {
+            self.blamed[i] = 1;
         }
     }
 
     // The trail's set as a number, atom 1 first.
     pub fn mask(&self) -> u32 {
-        let atoms = &self.trail.value[1..self.program.table.atoms + 1];
+        let atoms = &self.trail.value[1..self.listed.rules.atoms + 1];
         atoms
             .iter()
             .fold(0, |mask, value| (mask << 1) | u32::from(*value == 1))

@@ -1,5 +1,6 @@
 // Runs the machine on small stored programs and prints each trail as it changes. tests/traces.py writes what must be printed.
-#![tactic(auto)]
+// The stored tables are checked by computing: so many definitions are looked into.
+#![tactic(auto, using(crate::proofs::Checked::formed, crate::proofs::Checked::roomy, crate::proofs::Checked::wished), unfolding(asp::specs::Literal::occurs_among, asp::specs::Literal::one_signed, asp::specs::Tables::span, asp::specs::Tables::is_choice, asp::specs::Tables::is_weighted, asp::specs::Tables::is_mixed, counting::specs::Counts::sum_from))]
 
 mod machine;
 mod program;

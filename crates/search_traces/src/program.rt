@@ -1,13 +1,12 @@
 // A stored program: its rules, the wished literals, and the stable models, each as a number in base 2 whose first digit is atom 1.
-ghost use Rattle.std.specs.Prelude.{length};
 ghost use Rattle.std.proofs.Props.{props};
-ghost use Rattle.search.specs.Scan.{rules};
-ghost use Rattle.indexing.specs.Sorting.{Sorted};
+ghost use Rattle.search.specs.Lent.{rules_lent};
+ghost use Rattle.indexing.specs.Sorting.{Sorted, is_head};
 ghost use Rattle.search_traces.specs.Stored.{Roomy, Wished};
 
 use asp::rules::RuleTable;
-use counting::counters::Index;
-use indexing::build;
+use counting::index::Index;
+use indexing::build::{By, Listing};
 
 #[derive(Clone, Copy)]
 pub struct Program<'a> {
@@ -20,16 +19,15 @@ pub struct Program<'a> {
 }
 
 impl Program<'_> {
-    // The rules by head, or by condition.
-    pub fn lists(&self, heads: bool) -> Index
-        ensures { Sorted heads (rules self.now.table.pool.now self.now.table.rows.now (length self.now.table.rows.now)) result }
+    // The rules by condition, or by head.
+    pub fn lists(&self, by: By) -> Index
+        ensures { Sorted (is_head by) (rules_lent self.now.table) result }
     {
-        build::lists_of(
-            self.table.pool,
-            self.table.rows,
-            self.table.rows.len(),
-            heads,
-        )
+        let listing = Listing {
+            rules: self.table,
+            by,
+        };
+        listing.lists()
     }
 }
 

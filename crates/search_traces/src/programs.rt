@@ -1,5 +1,6 @@
 // The stored programs, without weighted bodies.
-#![tactic(auto, using(crate::proofs::Checked::formed, crate::proofs::Checked::roomy, crate::proofs::Checked::wished), unfolding(asp::specs::Literal::occurs_among, asp::specs::Literal::one_signed, asp::specs::Tables::span, asp::specs::Tables::is_choice, asp::specs::Tables::is_weighted, asp::specs::Tables::is_mixed, counting::specs::Counts::sum_from))]
+
+ghost use Rattle.search_traces.specs.Stored.{Wished};
 
 use crate::program::{Program, row};
 use asp::rules::{BodyKind, HeadKind, Row, RuleTable};
@@ -73,9 +74,12 @@ pub fn chain() -> Program<'static> {
     }
 }
 
-pub fn plan() -> Program<'static> {
+// A choice of 1 and 2, 3 if both, and never neither.
+fn planned(name: &'static str, wished: &'static [i32]) -> Program<'static>
+    requires { Wished 3 wished.now }
+{
     Program {
-        name: "plan",
+        name,
         table: RuleTable {
             atoms: 3,
             pool: &[1, 2, 3, 1, 2, -1, -2],
@@ -85,43 +89,21 @@ pub fn plan() -> Program<'static> {
                 row!(Plain, Normal, 5, 0, 2),
             ],
         },
-        wished: &[],
+        wished,
         models: &[4, 2, 7],
     }
+}
+
+pub fn plan() -> Program<'static> {
+    planned("plan", &[])
 }
 
 pub fn plan_wishes() -> Program<'static> {
-    Program {
-        name: "plan, wishes not 1, not 2",
-        table: RuleTable {
-            atoms: 3,
-            pool: &[1, 2, 3, 1, 2, -1, -2],
-            rows: &[
-                row!(Choice, Normal, 0, 2, 0),
-                row!(Plain, Normal, 2, 1, 2),
-                row!(Plain, Normal, 5, 0, 2),
-            ],
-        },
-        wished: &[-1, -2],
-        models: &[4, 2, 7],
-    }
+    planned("plan, wishes not 1, not 2", &[-1, -2])
 }
 
 pub fn plan_other_wishes() -> Program<'static> {
-    Program {
-        name: "plan, wishes not 3, not 1",
-        table: RuleTable {
-            atoms: 3,
-            pool: &[1, 2, 3, 1, 2, -1, -2],
-            rows: &[
-                row!(Choice, Normal, 0, 2, 0),
-                row!(Plain, Normal, 2, 1, 2),
-                row!(Plain, Normal, 5, 0, 2),
-            ],
-        },
-        wished: &[-3, -1],
-        models: &[4, 2, 7],
-    }
+    planned("plan, wishes not 3, not 1", &[-3, -1])
 }
 
 pub fn three_in_two() -> Program<'static> {

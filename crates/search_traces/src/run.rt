@@ -1,6 +1,7 @@
 // One query, run to its end and printed.
 use crate::machine::Machine;
 use crate::program::Program;
+use indexing::build::By;
 use search::step::Tested;
 use std::io;
 
@@ -30,7 +31,7 @@ fn cut(rt: &impl Print, machine: &mut Machine<'_>) -> io::Result<Option<End>> {
 // A full trail is judged.
 fn judge(rt: &impl Print, machine: &mut Machine<'_>) -> io::Result<Option<End>> {
     print!(rt; "full")?;
-    if !machine.program.models.contains(&machine.mask()) {
+    if !machine.models.contains(&machine.mask()) {
         print!(rt; " unstable")?;
         return cut(rt, machine);
     }
@@ -75,9 +76,8 @@ fn print_core(rt: &impl Print, blamed: &[u8; 8]) -> io::Result<()> {
 // The query, to its end.
 pub fn run(rt: &impl Print, program: Program<'_>) -> io::Result<()> {
     println!(rt; "program {}", program.name)?;
-    let conditions = program.lists(false);
-    let heads = program.lists(true);
-    let mut machine = Machine::new(program, &conditions, &heads);
+    let conditions = program.lists(By::Condition);
+    let mut machine = Machine::new(program, &conditions);
     for steps in 1..1001 {
         if let Some(end) = turn(rt, &mut machine)? {
             if end == End::Core {

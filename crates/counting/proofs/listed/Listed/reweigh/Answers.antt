@@ -7,7 +7,7 @@ use Rattle.counting.proofs.listed.Listed.reweigh.Goals as goal
 pub weigh_all-requires : goal.weigh_all-requires
 weigh_all-requires c =
     let g = c.args.self.now in
-    list_readable g.rules g.indexed (readable _ _ _ _ g.rules.formed) c.requires c.from-from.ensures c.from-end.ensures
+    list_readable g.rules g.indexed (readable _ _ _ _ g.rules.formed) c.requires (search rules) (search rules)
 
 pub returns : goal.returns
 returns c = search (weighed_all, rules)

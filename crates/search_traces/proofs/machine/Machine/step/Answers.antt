@@ -1,6 +1,9 @@
 use Rattle.std.proofs.Common.{rules}
-use Rattle.search_traces.proofs.Laws.{soft_formed, runs_on}
+use Rattle.search.proofs.Kept.{after_step}
+use Rattle.search_traces.proofs.Laws.{soft_formed}
 use Rattle.search_traces.proofs.machine.Machine.step.Goals as goal
 
 pub invariant_of-self : goal.invariant_of-self
-invariant_of-self c = record { running = runs_on c.args.self.now.program.table.formed (soft_formed c.args.self.now.program.wishes (search rules)) c.args.self.now.running c.step.ensures.stepped c.step.ensures.equipped }
+invariant_of-self c =
+    let m = c.args.self.now in
+    record { wishes = m.wishes; sound = after_step _ _ _ m.listed.rules.atoms _ m.trail m.listed.rules.formed (soft_formed m.wishes (search rules)) m.sound c.step.ensures.stepped; tracks = c.step.ensures.tracks }
