@@ -1,5 +1,5 @@
 -- What `assumed` and `entries` of crate `judging` leave at the fronts of their arrays is the query. Assumes nothing.
-use mathlib.Core.Path.{◌≡◌, ap, ap₂, ◌∙◌}
+use mathlib.Core.Path.{◌≡◌, sym, ap, ap₂, ◌∙◌, subst}
 use mathlib.Core.List.{List, map}
 use Prim.Native.Nat.{ℕ, ◌+◌, ◌≤◌, ◌<◌}
 use native.Mathlib.Omega.{arith}
@@ -10,13 +10,16 @@ use Rattle.asp.specs.Program.{All}
 use lib.Seq.{length-sets}
 use Rattle.cores.specs.Level.{assumed_from}
 use Rattle.cores.specs.Judging.{judging}
-use Rattle.cores.specs.Columns.{literals_of, rests_of, ListedPlaces, listed_places, assumed_of, entries_among, Pairs, pairs, Paired, paired, entry_columns}
+use Rattle.cores.specs.Columns.{literals_of, cores_of, indices_of, rests_of, ListedPlaces, listed_places, assumed_of, entries_among, Pairs, pairs, Paired, paired, entry_columns}
 use Rattle.cores.proofs.Strata.{assumed_length}
-use Rattle.cores.specs.Tables.{held_in, judging_of}
+use Rattle.cores.specs.Tables.{held_in, judging_of, FormedTables}
+use Rattle.cores.proofs.Lent.{lent_few}
 use Rattle.cores.specs.declared.soft.Soft.{Soft}
 use Rattle.cores.specs.declared.level.LevelTables.{LevelTables}
 use Rattle.cores.proofs.Kept.{assumed_front, entries_front, wishes_front}
+use Rattle.advancing.specs.Source.{Source}
 use Rattle.advancing.specs.Turn.{query_tables, query_by, query_of}
+use Rattle.advancing.specs.Ready.{ReadyQuery}
 use Rattle.advancing.proofs.Classes.{keep_length}
 
 -- the records have as many weights, and as many literals
@@ -75,3 +78,29 @@ pub lent_query : (t : LevelTables) {ss : List Soft} {es ms : List ℕ} → ss �
     → (level s : ℕ) (lowers : List ℤ) → query_by level lowers (judging_of ss es ms) (rests_of ss) s ≡ query_of level lowers t s
 unfolding query_of
 lent_query t a b c level s lowers = rw (a, b, c)
+
+-- ---- the records that are lent, and the fronts, are the query that stands
+
+module _ (t : LevelTables) (f : FormedTables t) (s : ℕ) {ss : List Soft} {es ms : List ℕ} (a : ss ≡ take t.count t.softs) (b : es ≡ take (t.cores + 1) t.ends) (d : ms ≡ take (held_in t) t.members)
+    {qs : List ℕ} {m : ℕ} (e : listed_places qs m ≡ assumed_of s (rests_of ss) (replicate 4096 0)) where
+  lent_rests : length (rests_of ss) ≤ 4096
+  lent_rests = rests_few ss (lent_few t f a)
+
+  pub assumed_end : m ≤ length qs
+  assumed_end = assumed_reach s (rests_of ss) lent_rests e
+
+  pub assumed_inside : {S : Source} (level : ℕ) (lowers : List ℤ) → ReadyQuery S (query_of level lowers t s) → All (λ m. m < length ss) (take m qs)
+  assumed_inside {S} level lowers r =
+      let lent = subst (ReadyQuery S) (sym (lent_query t a b d level s lowers)) r in
+      subst (λ (xs : List ℕ). All (λ (m : ℕ). m < length ss) xs) (sym (assumed_is s (rests_of ss) lent_rests e)) (softs_inside ss _ lent.assumed_in_lem)
+
+  module _ {ps : List ℕ} {os : List ℤ} {k : ℕ}
+      (e₂ : paired (pairs ps os) k ≡ entry_columns (literals_of ss) (entries_among (cores_of ss) (take m qs)) (pairs (replicate 4096 0) (replicate 4096 (pos 0)))) where
+    pub spots_end : k ≤ length ps
+    spots_end = spots_reach s (rests_of ss) lent_rests e (literals_of ss) (cores_of ss) e₂
+
+    pub wished_end : k ≤ length os
+    wished_end = wished_reach s (rests_of ss) lent_rests e (literals_of ss) (cores_of ss) e₂
+
+    pub query_is : (level : ℕ) (lowers : List ℤ) → query_tables level lowers (take k os) (take k ps) (take m qs) (judging_of ss es ms) ≡ query_of level lowers t s
+    query_is level lowers = fronts_query s (rests_of ss) lent_rests e (literals_of ss) (cores_of ss) e₂ level lowers (indices_of ss) es ms ∙ lent_query t a b d level s lowers

@@ -1,60 +1,25 @@
 -- What is prepared for a program, and that every program in shape has it. Assumes nothing.
-use mathlib.Core.Path.{◌≡◌, refl, sym, ap, ap₂, ◌∙◌}
+use mathlib.Core.Path.{◌≡◌, refl, sym, ap, ◌∙◌}
 use mathlib.Core.Bool.{Bool, true, false, not}
 use mathlib.Core.List.{List, [], ◌∷◌}
 use mathlib.Core.Logic.{◌⊎◌, inl, inr}
-use Prim.Native.Nat.{ℕ, ◌≤◌, ◌<◌}
+use Prim.Native.Nat.{ℕ, ◌≤◌}
 use native.Mathlib.Omega.{arith}
 use native.Mathlib.Nat.{zero-add}
 use lib.Dec.{T, eqb, ltb}
-use lib.IntN.{ℤ}
-use lib.ListN.{length, take, get_or-eq_default, replicate}
-use Rattle.std.proofs.lemmas.List.{get_or-take, length-take-le}
+use lib.ListN.{get_or-eq_default}
 use borrow.Author.Tests.{ltb-true, ltb-false}
 use Rattle.asp.specs.Sets.{In, set_of, ind}
 use Rattle.asp.specs.Program.{Head, constraint, plain, choice, Rule, All, HeadIn, RuleIn}
 use Rattle.asp.specs.Penalty.{penalties}
-use Rattle.asp.specs.declared.rules.Row.{Row}
-use Rattle.asp.specs.Tables.{span, no_row, row_at, rule_at, rules_of, Formed}
+use Rattle.asp.specs.Tables.{span}
 use mir.Facts.{and_yes, or_yes}
 use Rattle.asp.proofs.Stability.{member_in}
-use Rattle.cores.proofs.Spans.{length_span, get_d_span, span_ext}
-use Rattle.choosing.specs.First.{tried_first, is_bodiless, chosen_by, freely_chosen_by, freely_chosen, paid_for}
-use Rattle.counting.specs.declared.index.Index.{Index}
-use Rattle.indexing.specs.Leaf.{no_index}
+use Rattle.cores.proofs.Spans.{length_span, get_d_span}
+use Rattle.choosing.specs.First.{is_bodiless, chosen_by, freely_chosen_by, freely_chosen, paid_for}
 use Rattle.indexing.proofs.Lists.{lists_exist}
 use Rattle.optimizer.specs.declared.prepare.Preparation.{Preparation}
 use Rattle.advancing.specs.Source.{Source, entries_in, rules_in, rule_tables, first_in, FormedSource, Tries, Prepared}
-use Rattle.optimizer.specs.Prepare.{no_preparation}
-
-abbrev untried : Index → Index → Preparation
-untried o h = record { conditions = o; heads = h; tried = replicate 1025 0 }
-
-pub none_prepared : {o h : Index} → o ≡ no_index → h ≡ no_index → untried o h ≡ no_preparation
-none_prepared e d = ap₂ untried e d
-
--- ---- the rows as far as the table is filled
-
-module _ (n : ℕ) (pool : List ℤ) (rows : List Row) (k : ℕ) (w : Formed n pool rows k) where
-  front_rows : (r : ℕ) → r < k → row_at (take k rows) r ≡ row_at rows r
-  front_rows r h = get_or-take k rows r no_row h
-
-  front_rules : rules_of pool (take k rows) (length (take k rows)) ≡ rules_of pool rows k
-  front_rules =
-      ap (rules_of pool (take k rows)) (length-take-le k rows w.long)
-      ∙ span_ext (λ r. rule_at pool (row_at (take k rows) r)) (λ r. rule_at pool (row_at rows r)) 0 k (λ r a b. ap (rule_at pool) (front_rows r (omega (arith, b))))
-
-  pub front_formed : Formed n pool (take k rows) (length (take k rows))
-  front_formed = record {
-    few = w.few;
-    long = omega arith;
-    row = λ r h. let b : r < k = omega (arith, h, length-take-le k rows w.long) in rw (front_rows r b) (w.row r b);
-    atoms = rw front_rules w.atoms;
-  }
-
-pub front_tried : (S : Source) → FormedSource S → {t : List ℕ}
-    → ((a : ℕ) → set_of t a ≡ tried_first (rules_of S.pool (take S.rulecount S.rows) (length (take S.rulecount S.rows))) (penalties (entries_in S.levels)) a) → Tries S t
-front_tried S f h = record { tries = λ a. h a ∙ ap (λ (rs : List Rule). tried_first rs (penalties (entries_in S.levels)) a) (front_rules S.n S.pool S.rows S.rulecount f.rules) }
 
 -- ---- an atom to try in first is one of 1 to n
 

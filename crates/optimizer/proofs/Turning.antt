@@ -1,5 +1,5 @@
 -- One step of a query as the code makes it, and steps in a loop. Assumes nothing.
-use mathlib.Core.Path.{◌≡◌, refl, sym, ap, ap₂, ◌∙◌}
+use mathlib.Core.Path.{◌≡◌, refl, sym, ap, ap₂, ◌∙◌, subst}
 use mathlib.Core.Bool.{Bool, true, false}
 use mathlib.Core.List.{List}
 use Prim.Native.Nat.{ℕ, suc, ◌+◌, ◌-◌, ◌≤◌, ◌<◌}
@@ -8,6 +8,7 @@ use native.Mathlib.Omega.{arith}
 use lib.Dec.{eqb}
 use lib.IntN.{ℤ}
 use lib.ListN.{length}
+use Rattle.std.specs.Borrow.{Bor}
 use Rattle.asp.specs.Sets.{Set, set_of, pick}
 use Rattle.search.specs.declared.trail.Places.{Places}
 use Rattle.search.specs.Places.{SoundTrail, back_of}
@@ -22,9 +23,12 @@ use Rattle.advancing.specs.declared.state.Judgement.{Judgement}
 use Rattle.advancing.specs.declared.state.Judgement.TheVariants.{Wanted, Dead, Violated}
 use Rattle.advancing.specs.Source.{Source, rule_tables, Tries}
 use Rattle.advancing.specs.Turn.{QueryTables, blamed_of, blame_entry, blame_place, judge_full, Turned, turned, backed, judged_turn, turn_by, assumed_by, turn_of, is_going, Turns, turns, one_more, go_on, turns_of}
-use Rattle.advancing.specs.Ready.{ReadyQuery, GoodBlame}
+use Rattle.advancing.specs.Ready.{ReadyQuery, GoodBlame, softs}
 use Rattle.optimizer.specs.Turning.{backed_turn}
-use Rattle.advancing.proofs.Stepping.{first_is, turn_sound, turn_blame}
+use Rattle.optimizer.specs.declared.query.Query.{Query}
+use Rattle.optimizer.specs.Lent.{source_lent, query_lent}
+use Rattle.advancing.proofs.Stepping.{first_is, soft_formed, violated_entry, violated_in_lem, entry_good, place_good}
+use Rattle.search.proofs.Kept.{after_step}
 
 -- ---- the code's answers
 
@@ -76,32 +80,51 @@ module _ (S : Source) (q : QueryTables) (t : Places) (b : Blame) where
   pub turn_full : {x : Tested} {t₁ : Places} → stepped x t₁ ≡ step_of (rule_tables S) S.n (assumed_by S q b) t → x ≡ Full → {y : Turned} → y ≡ judged_turn q t₁ b (judge_full S q (blamed_of b) t₁.value) → y ≡ turn_of S q t b
   turn_full e z f = f ∙ ap (λ (s : Places). judged_turn q s b (judge_full S q (blamed_of b) s.value)) (moved e Full z) ∙ turn_is e Full z
 
+-- ---- what a walk keeps
+
+module _ {S : Source} {q : QueryTables} (r : ReadyQuery S q) {t : Places} {b : Blame} (g : GoodBlame q b) (d : SoundTrail S.n t) {x : Tested} {t₁ : Places} (e : stepped x t₁ ≡ step_of (rule_tables S) S.n (assumed_by S q b) t) where
+  pub step_after : SoundTrail S.n t₁
+  step_after = after_step S.pool S.rows S.rulecount S.n (assumed_by S q b) t r.source.rules (soft_formed r g) d e
+
+  pub violated_place : {i : ℕ} → x ≡ SoftViolated i → i < length q.places
+  violated_place z = violated_entry r g t d (sym (ap (λ (y : Stepped). y.tested) e) ∙ z)
+
+  pub violated_good : {i : ℕ} → x ≡ SoftViolated i → {b₁ : Blame} → b₁ ≡ blame_entry q.places i b → GoodBlame q b₁
+  violated_good {i} z f = subst (GoodBlame q) (sym f) (entry_good r g i (violated_place z))
+
+module _ {S : Source} {q : QueryTables} (r : ReadyQuery S q) (t : Places) {b : Blame} (g : GoodBlame q b) {j : Judgement} (e : j ≡ judge_full S q (blamed_of b) t.value) where
+  pub judged_place : {p : ℕ} → j ≡ Violated p → p < softs q
+  judged_place z = violated_in_lem r g t.value (sym z ∙ e)
+
+  pub judged_good : {p : ℕ} → j ≡ Violated p → {b₁ : Blame} → b₁ ≡ blame_place q.places p b → GoodBlame q b₁
+  judged_good {p} z f = subst (GoodBlame q) (sym f) (place_good r g p (judged_place z))
+
+-- a step of the same query
+pub same_turn : {q r : Bor Query} → r ≡ q → (t : Places) (b : Blame) {x : Turned} → x ≡ turn_of (source_lent r.now.ground) (query_lent r.now) t b → x ≡ turn_of (source_lent q.now.ground) (query_lent q.now) t b
+same_turn h t b e = e ∙ ap (λ (q : Bor Query). turn_of (source_lent q.now.ground) (query_lent q.now) t b) h
+
 -- ---- steps in a loop
 
 abbrev pub plus : ℕ → Turns → Turns
 plus m r = turns r.turned (m + r.made)
 
 pub record Turned-on (S : Source) (q : QueryTables) (budget : ℕ) (t₀ : Places) (b₀ : Blame) (t : Places) (b : Blame) (made : ℕ) : Type 0 where
-  pub trail : SoundTrail S.n t
-  pub blame : GoodBlame q b
   pub below : made ≤ budget
   pub rest : plus made (turns_of S q (budget - made) t b) ≡ turns_of S q budget t₀ b₀
 
 plus_zero : (r : Turns) → plus 0 r ≡ r
 plus_zero r = let e : 0 + r.made ≡ r.made = omega arith in rw e
 
-pub turns_start : (S : Source) (q : QueryTables) (budget : ℕ) {t : Places} {b : Blame} → SoundTrail S.n t → GoodBlame q b → Turned-on S q budget t b t b 0
-turns_start S q budget {t} {b} d g = record { trail = d; blame = g; below = omega arith; rest = rw sub-zero (plus_zero (turns_of S q budget t b)) }
+pub turns_start : (S : Source) (q : QueryTables) (budget : ℕ) {t : Places} {b : Blame} → Turned-on S q budget t b t b 0
+turns_start S q budget {t} {b} = record { below = omega arith; rest = rw sub-zero (plus_zero (turns_of S q budget t b)) }
 
-module _ {S : Source} {q : QueryTables} {budget : ℕ} {t₀ : Places} {b₀ : Blame} {t : Places} {b : Blame} {made : ℕ} (r : ReadyQuery S q) (k : Turned-on S q budget t₀ b₀ t b made) where
+module _ {S : Source} {q : QueryTables} {budget : ℕ} {t₀ : Places} {b₀ : Blame} {t : Places} {b : Blame} {made : ℕ} (k : Turned-on S q budget t₀ b₀ t b made) where
   more : made < budget → turns_of S q (budget - made) t b ≡ one_more (go_on (turn_of S q t b) (turns_of S q (budget - (made + 1)) (turn_of S q t b).trail (turn_of S q t b).blame))
   unfolding turns_of
   more h = let e : budget - made ≡ suc (budget - (made + 1)) = omega arith in rw e
 
   pub turns_next : made < budget → {x : Turn} {t₁ : Places} {b₁ : Blame} → turned x t₁ b₁ ≡ turn_of S q t b → {g : Bool} → g ≡ is_going x → g ≡ true → Turned-on S q budget t₀ b₀ t₁ b₁ (made + 1)
   turns_next h {x} {t₁} {b₁} e f p = record {
-    trail = rw (ap (λ (y : Turned). y.trail) e) (turn_sound r k.blame t k.trail);
-    blame = rw (ap (λ (y : Turned). y.blame) e) (turn_blame r k.blame t k.trail);
     below = omega arith;
     rest =
         let u : turns_of S q (budget - made) t b ≡ one_more (turns_of S q (budget - (made + 1)) t₁ b₁) = more h ∙ rw (← e, ← f, p) in
@@ -111,10 +134,11 @@ module _ {S : Source} {q : QueryTables} {budget : ℕ} {t₀ : Places} {b₀ : B
       shift : (y : Turns) → turns y.turned (made + 1 + y.made) ≡ turns y.turned (made + suc y.made)
       shift y = let z : made + 1 + y.made ≡ made + suc y.made = omega arith in rw z
 
-  pub turns_out : made < budget → {x : Turn} {t₁ : Places} {b₁ : Blame} → turned x t₁ b₁ ≡ turn_of S q t b → {g : Bool} → g ≡ is_going x → g ≡ false → turns (turned x t₁ b₁) (made + 1) ≡ turns_of S q budget t₀ b₀
-  turns_out h {x} {t₁} {b₁} e f p =
+  pub turns_out : made < budget → {x : Turn} {t₁ : Places} {b₁ : Blame} → turned x t₁ b₁ ≡ turn_of S q t b → {g : Bool} → g ≡ is_going x → g ≡ false → {m : ℕ} → m ≡ made + 1
+      → turns (turned x t₁ b₁) m ≡ turns_of S q budget t₀ b₀
+  turns_out h {x} {t₁} {b₁} e f p n =
       let u : turns_of S q (budget - made) t b ≡ turns (turned x t₁ b₁) 1 = more h ∙ rw (← e, ← f, p) in
-      ap (plus made) (sym u) ∙ k.rest
+      ap (turns (turned x t₁ b₁)) n ∙ ap (plus made) (sym u) ∙ k.rest
 
   pub turns_done : budget ≤ made → turns (turned Going t b) budget ≡ turns_of S q budget t₀ b₀
   unfolding turns_of
@@ -122,11 +146,3 @@ module _ {S : Source} {q : QueryTables} {budget : ℕ} {t₀ : Places} {b₀ : B
       let e : budget - made ≡ 0 = omega arith in
       let z : made + 0 ≡ budget = omega (arith, k.below) in
       rw (e, z) at k.rest
-
--- the loop's state with the numbers beside it
-pub record TrackedOn (Equipped : Type 0) (On : Type 0) : Type 0 where
-  pub on : On
-  pub tallied : Equipped
-
-pub tracked : {Equipped On : Type 0} → On → Equipped → TrackedOn Equipped On
-tracked a b = record { on = a; tallied = b }

@@ -1,23 +1,21 @@
 -- What a lent program and a lent query mean. Assumes nothing: these are definitions.
 use Rattle.std.specs.Prelude.{List, ℕ}
 use Rattle.counting.specs.declared.counters.Counters.{Counters}
-use Rattle.indexing.specs.Leaf.{Leaf, Equipped}
+use Rattle.search.specs.Lent.{rules_lent}
+use Rattle.indexing.specs.Leaf.{Leaf}
 use Rattle.judging.specs.Lent.{tables_of}
-use Rattle.advancing.specs.Source.{Source, source, levels_lent, rule_tables}
+use Rattle.advancing.specs.Source.{Source}
 use Rattle.advancing.specs.Turn.{QueryTables, query_tables}
+use Rattle.optimizer.specs.Tables.{source_by}
 use Rattle.optimizer.specs.declared.ground.Ground.{Ground}
-use Rattle.optimizer.specs.declared.turn.Query.{Query}
+use Rattle.optimizer.specs.declared.query.Query.{Query}
 
 abbrev pub source_lent : Ground → Source
-source_lent g = source g.atoms g.pool.now g.rows.now g.rules (levels_lent g.objective)
+source_lent g = source_by g.listed.rules g.limited.objective
 
 abbrev pub query_lent : Query → QueryTables
 query_lent q = query_tables q.level q.lowers.now q.wished.now q.spots.now q.assumed.now (tables_of q.cores)
 
--- the numbers are those of the values v
-abbrev pub EquippedFor : Ground → List ℕ → Counters → Type 0
-EquippedFor g v x = Equipped (rule_tables (source_lent g)) g.prepared.now.conditions g.prepared.now.heads v x
-
--- and v is full and breaks no rule
+-- the numbers are those of the values v, which are full and break no rule
 abbrev pub LeafFor : Ground → List ℕ → Counters → Type 0
-LeafFor g v x = Leaf (rule_tables (source_lent g)) g.atoms g.prepared.now.conditions g.prepared.now.heads v x
+LeafFor g v x = Leaf (rules_lent g.listed.rules) g.listed.rules.atoms g.listed.lists.now g.heads.now v x

@@ -1,4 +1,6 @@
+pub mod Tables
+pub mod Alone
 pub mod Turning
-pub mod Prepare
 pub mod Lent
+pub mod Walking
 pub mod Ending

@@ -1,18 +1,25 @@
 // A ground program as an optimization reads it, lent: its rules and levels, and what is prepared for them.
-ghost use Rattle.advancing.specs.Source.{source, levels_lent, Prepared};
+ghost use Rattle.advancing.specs.Source.{levels_lent, FormedLevels, Prepared};
+ghost use Rattle.optimizer.specs.Tables.{source_by};
+ghost use Rattle.optimizer.specs.Alone.{formed_levels-prop};
 
-use crate::prepare::Preparation;
 use asp::cost::Objective;
-use asp::rules::Row;
+use counting::index::Index;
+use counting::listed::Listed;
 
-// The atoms are 1 to `atoms`; the first `rules` rows are rules.
+// An objective within document 01's limits: levels, entries, and the weight of each.
+#[derive(Clone, Copy)]
+pub struct Limited<'a> {
+    pub objective: Objective<'a>,
+    pub ghost formed: { FormedLevels (levels_lent objective) } by { formed_levels-prop _ },
+}
+
+// The rules with their lists by condition, their lists by head atom, the atoms that a free branch tries in first, and what is to be optimized.
 #[derive(Clone, Copy)]
 pub struct Ground<'a> {
-    pub atoms: usize,
-    pub pool: &'a [i32],
-    pub rows: &'a [Row],
-    pub rules: usize,
-    pub objective: Objective<'a>,
-    pub prepared: &'a Preparation,
-    ghost ready: { Prepared (source atoms pool.now rows.now rules (levels_lent objective)) prepared.now.conditions prepared.now.heads prepared.now.tried },
+    pub listed: Listed<'a>,
+    pub heads: &'a Index,
+    pub tried: &'a [u8; 1025],
+    pub limited: Limited<'a>,
+    ghost ready: { Prepared (source_by listed.rules limited.objective) listed.lists.now heads.now tried.now },
 }

@@ -4,18 +4,16 @@ ghost use Rattle.asp.specs.Sets.{set_of};
 ghost use Rattle.asp.specs.Literal.{same_ℤ};
 ghost use Rattle.asp.specs.Program.{All};
 ghost use Rattle.asp.specs.Cost.{cost, level};
-ghost use Rattle.advancing.specs.Source.{levels_lent};
-ghost use Rattle.advancing.specs.Turn.{settled_from, in_class, soft_or_wanted, judge_full};
-ghost use Rattle.advancing.specs.Ready.{ReadyQuery, softs};
+ghost use Rattle.advancing.specs.Turn.{settled_from, soft_or_wanted, judge_full};
+ghost use Rattle.advancing.specs.Ready.{softs};
 ghost use Rattle.optimizer.specs.Lent.{source_lent, query_lent, LeafFor};
 
-use crate::ground::Ground;
-use crate::turn::Query;
+use crate::query::Query;
 use advancing::state::Judgement;
 use asp::atoms::AtomSet;
 use asp::cost::Objective;
 use counting::counters::Counters;
-use indexing::leaf;
+use indexing::leaf::FullTrail;
 
 // Whether a set costs on level l what that is settled at.
 fn is_settled_at(objective: &Objective<'_>, l: usize, m: AtomSet<'_>, lowers: &[i64; 8]) -> bool
@@ -48,45 +46,29 @@ fn soft_or_wanted(j: Option<usize>) -> Judgement
     }
 }
 
-// Stable, with the settled costs.
-fn in_class(g: &Ground<'_>, q: &Query<'_>, value: &[u8; 1025], counters: &Counters) -> bool
-    requires ready_query { ReadyQuery (source_lent g.now) (query_lent q.now) }
-    requires leaf { LeafFor g.now value.now counters.now }
-    ensures { result ≡ in_class (source_lent g.now) q.now.level q.now.lowers.now (set_of value.now) }
-{
-    if leaf::is_stable(
-        g.pool,
-        g.rows,
-        g.rules,
-        g.atoms,
-        &g.prepared.conditions,
-        &g.prepared.heads,
-        value,
-        counters,
-    ) {
-        return is_settled(&g.objective, q.level, AtomSet { bytes: value }, q.lowers);
+impl Query<'_> {
+    // The judgement of a full trail: by the rules and the settled costs, and then by the soft literals, those that are blamed already first.
+    pub fn judge_full(
+        &self,
+        blamed: &[u16],
+        value: &[u8; 1025],
+        counters: &Counters,
+    ) -> Judgement
+        requires inside { All (λ m. m < softs (query_lent self.now)) blamed.now }
+        requires leaf { LeafFor self.now.ground value.now counters.now }
+        ensures { result ≡ judge_full (source_lent self.now.ground) (query_lent self.now) blamed.now value.now }
+    {
+        let full = FullTrail {
+            listed: self.ground.listed,
+            heads: self.ground.heads,
+            value,
+            counters,
+        };
+        let set = AtomSet { bytes: value };
+        let objective = &self.ground.limited.objective;
+        if !full.is_stable() || !is_settled(objective, self.level, set, self.lowers) {
+            return Judgement::Dead;
+        }
+        soft_or_wanted(self.cores.judge_both(blamed, self.assumed, set))
     }
-    false
-}
-
-// The judgement of a full trail: by the rules and the settled costs, and then by the soft literals, those that are blamed already first.
-pub fn judge_full(
-    g: &Ground<'_>,
-    q: &Query<'_>,
-    blamed: &[u16],
-    value: &[u8; 1025],
-    counters: &Counters,
-) -> Judgement
-    requires ready_query { ReadyQuery (source_lent g.now) (query_lent q.now) }
-    requires inside { All (λ m. m < softs (query_lent q.now)) blamed.now }
-    requires leaf { LeafFor g.now value.now counters.now }
-    ensures { result ≡ judge_full (source_lent g.now) (query_lent q.now) blamed.now value.now }
-{
-    if in_class(g, q, value, counters) {
-        return soft_or_wanted(
-            q.cores
-                .judge_both(blamed, q.assumed, AtomSet { bytes: value }),
-        );
-    }
-    Judgement::Dead
 }

@@ -1,12 +1,13 @@
 // What is made once for a program, at its load: the lists of its rules, and the atoms that a free branch tries in first. It makes an advance fast; what is answered does
 // not depend on how the lists lie.
-ghost use Rattle.std.specs.Prelude.{◌≡◌};
-ghost use Rattle.advancing.specs.Source.{levels_lent, source, FormedSource, Prepared};
-ghost use Rattle.optimizer.specs.Prepare.{no_preparation};
+ghost use Rattle.indexing.specs.Sorting.{Readied};
+ghost use Rattle.advancing.specs.Source.{rule_tables, Prepared};
+ghost use Rattle.optimizer.specs.Tables.{source_by};
 
 use asp::cost::Objective;
-use asp::rules::{Row, RuleTable};
-use counting::counters::Index;
+use asp::rules::RuleTable;
+use counting::index::Index;
+use indexing::build::{By, Listing};
 
 // The rules by condition and by head atom; by atom, 1 for one to be tried in first.
 #[derive(Clone, Copy)]
@@ -16,40 +17,21 @@ pub struct Preparation {
     pub tried: [u8; 1025],
 }
 
-pub fn prepare<'a>(
-    n: usize,
-    pool: &'a [i32],
-    rows: &'a [Row],
-    rulecount: usize,
-    objective: &'a Objective<'a>,
-) -> Preparation
-    requires { FormedSource (source n pool.now rows.now rulecount (levels_lent objective.now)) }
-    ensures { Prepared (source n pool.now rows.now rulecount (levels_lent objective.now)) result.conditions result.heads result.tried }
+pub fn prepare(rules: RuleTable<'_>, objective: Objective<'_>) -> Preparation
+    requires { Readied (rule_tables (source_by rules objective)) }
+    ensures { Prepared (source_by rules.entry objective.entry) result.conditions result.heads result.tried }
 {
-    let conditions = indexing::build::lists_of(pool, rows, rulecount, false);
-    let heads = indexing::build::lists_of(pool, rows, rulecount, true);
-    let tried = choosing::first::tried_first(
-        RuleTable {
-            atoms: n,
-            pool,
-            rows: &rows[..rulecount],
-        },
-        *objective,
-    );
+    let by_condition = Listing {
+        rules,
+        by: By::Condition,
+    };
+    let by_head = Listing {
+        rules,
+        by: By::Head,
+    };
     Preparation {
-        conditions,
-        heads,
-        tried,
-    }
-}
-
-// That of no program.
-pub fn none() -> Preparation
-    ensures { result ≡ no_preparation }
-{
-    Preparation {
-        conditions: indexing::build::empty(),
-        heads: indexing::build::empty(),
-        tried: [0; 1025],
+        conditions: by_condition.lists(),
+        heads: by_head.lists(),
+        tried: choosing::first::tried_first(rules, objective),
     }
 }

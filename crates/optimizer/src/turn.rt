@@ -1,146 +1,33 @@
-// One step of a query, and steps until it ends.
+// A query under way: one step of it, and steps until it ends.
 ghost use Rattle.std.specs.Prelude.{◌≡◌};
-ghost use Rattle.search.specs.Places.{SoundTrail, back_of};
-ghost use Rattle.search.specs.Step.{stepped, step_of};
-ghost use Rattle.advancing.specs.Source.{rule_tables};
-ghost use Rattle.advancing.specs.Turn.{turned, turn_of, turns, turns_of, judged_turn, judge_full, assumed_by, blamed_of, is_going};
-ghost use Rattle.advancing.specs.Ready.{ReadyQuery, GoodBlame};
-ghost use Rattle.optimizer.specs.Lent.{source_lent, query_lent, EquippedFor, LeafFor};
+ghost use Rattle.search.specs.Places.{SoundTrail};
+ghost use Rattle.search.specs.Lent.{rules_lent};
+ghost use Rattle.counting.specs.Counts.{Tracks};
+ghost use Rattle.advancing.specs.Turn.{is_going};
+ghost use Rattle.advancing.specs.Ready.{GoodBlame};
+ghost use Rattle.optimizer.specs.Alone.{good_blame-prop, sound_trail-prop};
+ghost use Rattle.optimizer.specs.Lent.{query_lent};
 ghost use Rattle.optimizer.specs.Turning.{backed_turn};
 
 use crate::blame::{blame_entry, blame_place, blamed};
-use crate::ground::Ground;
-use crate::judge::judge_full;
+use crate::query::Query;
 use advancing::state::{Blame, Judgement, Turn};
 use counting::counters::Counters;
-use indexing::machine;
-use judging::judge::Cores;
+use search::soft::Wishes;
 use search::step::Tested;
 use search::trail::Places;
+use stepping::{step, trail};
 
-// What a query reads beside the program: how many levels are settled, and the lower bounds; the literals that the assumed soft literals of entries wish for, and their
-// places; the places of all that are assumed; and the cores.
-#[derive(Clone, Copy)]
-pub struct Query<'a> {
-    pub level: usize,
-    pub lowers: &'a [i64; 8],
-    pub wished: &'a [i32],
-    pub spots: &'a [u16],
-    pub assumed: &'a [u16],
-    pub cores: Cores<'a>,
-}
-
-// The test of a trail and the move that it asks for.
-fn step(
-    g: &Ground<'_>,
-    q: &Query<'_>,
-    blame: &Blame,
-    trail: &mut Places,
-    counters: &mut Counters,
-) -> Tested
-    requires ready_query { ReadyQuery (source_lent g.now) (query_lent q.now) }
-    requires good_blame { GoodBlame (query_lent q.now) blame.now }
-    requires sound_trail { SoundTrail g.now.atoms trail.old }
-    requires equipped { EquippedFor g.now trail.old.value counters.old }
-    ensures stepped { stepped result trail.new ≡ step_of (rule_tables (source_lent g.now)) g.now.atoms (assumed_by (source_lent g.now) (query_lent q.now) blame.now) trail.old }
-    ensures equipped { EquippedFor g.now trail.new.value counters.new }
-{
-    machine::step(
-        g.pool,
-        g.rows,
-        g.rules,
-        &g.prepared.conditions,
-        &g.prepared.heads,
-        g.atoms,
-        &g.prepared.tried,
-        q.wished,
-        &blame.flags,
-        q.wished.len(),
-        trail,
-        counters,
-    )
-}
-
-// After a conflict: back to the last decision, which is flipped. Without one the query has ended.
-fn back(g: &Ground<'_>, trail: &mut Places, counters: &mut Counters)
-    requires sound_trail { SoundTrail g.now.atoms trail.old }
-    requires equipped { EquippedFor g.now trail.old.value counters.old }
-    ensures back { trail.new ≡ back_of trail.old }
-    ensures equipped { EquippedFor g.now trail.new.value counters.new }
-{
-    machine::back(
-        g.pool,
-        g.rows,
-        g.rules,
-        &g.prepared.conditions,
-        &g.prepared.heads,
-        trail,
-        counters,
-    );
-}
-
-fn backed(trail: &Places) -> Turn
-    ensures { result ≡ backed_turn trail.now.len }
-{
-    if trail.len == 0 {
-        return Turn::Without;
-    }
-    Turn::Going
-}
-
-// The step on a full trail.
-fn judged(
-    g: &Ground<'_>,
-    q: &Query<'_>,
-    blame: &mut Blame,
-    trail: &mut Places,
-    counters: &mut Counters,
-) -> Turn
-    requires ready_query { ReadyQuery (source_lent g.now) (query_lent q.now) }
-    requires good_blame { GoodBlame (query_lent q.now) blame.old }
-    requires sound_trail { SoundTrail g.now.atoms trail.old }
-    requires leaf { LeafFor g.now trail.old.value counters.old }
-    ensures turned { turned result trail.new blame.new ≡ judged_turn (query_lent q.now) trail.old blame.old (judge_full (source_lent g.now) (query_lent q.now) (blamed_of blame.old) trail.old.value) }
-    ensures equipped { EquippedFor g.now trail.new.value counters.new }
-{
-    match judge_full(g, q, blamed(blame), &trail.value, counters) {
-        Judgement::Wanted => Turn::Model,
-        Judgement::Dead => {
-            back(g, trail, counters);
-            backed(trail)
-        }
-        Judgement::Violated(p) => {
-            blame_place(q.spots, p, blame);
-            back(g, trail, counters);
-            backed(trail)
-        }
-    }
-}
-
-// One step of a query: the test, the move that it asks for, the blame. A full trail is judged.
-pub fn turn(
-    g: &Ground<'_>,
-    q: &Query<'_>,
-    blame: &mut Blame,
-    trail: &mut Places,
-    counters: &mut Counters,
-) -> Turn
-    requires ready_query { ReadyQuery (source_lent g.now) (query_lent q.now) }
-    requires good_blame { GoodBlame (query_lent q.now) blame.old }
-    requires sound_trail { SoundTrail g.now.atoms trail.old }
-    requires equipped { EquippedFor g.now trail.old.value counters.old }
-    ensures turned { turned result trail.new blame.new ≡ turn_of (source_lent g.now) (query_lent q.now) trail.old blame.old }
-    ensures equipped { EquippedFor g.now trail.new.value counters.new }
-{
-    match step(g, q, blame, trail, counters) {
-        Tested::RuleBroken(_) => backed(trail),
-        Tested::SoftViolated(i) => {
-            blame_entry(q.spots, i, blame);
-            backed(trail)
-        }
-        Tested::Open(_) => Turn::Going,
-        Tested::Full => judged(g, q, blame, trail, counters),
-    }
+// What it has blamed, the trail, and the numbers of the trail's values.
+#[derive(Drop)]
+pub struct Walk<'a> {
+    pub query: &'a Query<'a>,
+    pub blame: &'a mut Blame,
+    pub trail: &'a mut Places,
+    pub counters: &'a mut Counters,
+    ghost good_blame: { GoodBlame (query_lent query.now) blame.now } by { good_blame-prop _ _ },
+    ghost sound_trail: { SoundTrail query.now.ground.listed.rules.atoms trail.now } by { sound_trail-prop _ _ },
+    ghost tracks: { Tracks (rules_lent query.now.ground.listed.rules) query.now.ground.listed.lists.now trail.now.value counters.now },
 }
 
 // What some steps came to, and how many they were.
@@ -150,33 +37,83 @@ pub struct Steps {
     pub made: u32,
 }
 
-// Steps until the query ends or `budget` are made.
-pub fn turns(
-    g: &Ground<'_>,
-    q: &Query<'_>,
-    blame: &mut Blame,
-    trail: &mut Places,
-    counters: &mut Counters,
-    budget: u32,
-) -> Steps
-    requires ready_query { ReadyQuery (source_lent g.now) (query_lent q.now) }
-    requires good_blame { GoodBlame (query_lent q.now) blame.old }
-    requires sound_trail { SoundTrail g.now.atoms trail.old }
-    requires equipped { EquippedFor g.now trail.old.value counters.old }
-    ensures { turns (turned result.turn trail.new blame.new) result.made ≡ turns_of (source_lent g.now) (query_lent q.now) budget trail.old blame.old }
+// After a cut: without a decision the query has ended.
+fn backed(trail: &Places) -> Turn
+    ensures { result ≡ backed_turn trail.now.len }
 {
-    for made in 0..budget {
-        let turn = turn(g, q, blame, trail, counters);
-        if !is_going(turn) {
-            return Steps {
-                turn,
-                made: made + 1,
-            };
+    if trail.len == 0 {
+        return Turn::Without;
+    }
+    Turn::Going
+}
+
+impl Walk<'_> {
+    ghost use Rattle.advancing.specs.Turn.{turned, turn_of, turns, turns_of, judged_turn, judge_full, blamed_of};
+    ghost use Rattle.optimizer.specs.Lent.{source_lent, LeafFor};
+    ghost use Rattle.optimizer.specs.Walking.{Same};
+
+    // The step on a full trail.
+    fn judged(&mut self) -> Turn
+        requires { LeafFor self.old.query.now.ground self.old.trail.now.value self.old.counters.now }
+        ensures same { Same self.old self.new }
+        ensures turned { turned result self.new.trail.now self.new.blame.now ≡ judged_turn (query_lent self.old.query.now) self.old.trail.now self.old.blame.now (judge_full (source_lent self.old.query.now.ground) (query_lent self.old.query.now) (blamed_of self.old.blame.now) self.old.trail.now.value) }
+    {
+        let query = self.query;
+        match query.judge_full(blamed(self.blame), &self.trail.value, self.counters) {
+            Judgement::Wanted => Turn::Model,
+            Judgement::Dead => {
+                trail::back(&query.ground.listed, self.trail, self.counters);
+                backed(self.trail)
+            }
+            Judgement::Violated(p) => {
+                blame_place(query.spots, p, self.blame);
+                trail::back(&query.ground.listed, self.trail, self.counters);
+                backed(self.trail)
+            }
         }
     }
-    Steps {
-        turn: Turn::Going,
-        made: budget,
+
+    // One step of the query: the test, the move that it asks for, the blame. A full trail is judged.
+    pub fn turn(&mut self) -> Turn
+        ensures same { Same self.old self.new }
+        ensures turned { turned result self.new.trail.now self.new.blame.now ≡ turn_of (source_lent self.old.query.now.ground) (query_lent self.old.query.now) self.old.trail.now self.old.blame.now }
+    {
+        let query = self.query;
+        let wishes = Wishes {
+            atoms: query.ground.listed.rules.atoms,
+            literals: query.wished,
+            blamed: &self.blame.flags,
+            tried: query.ground.tried,
+        };
+        match step::step(&query.ground.listed, &wishes, self.trail, self.counters) {
+            Tested::RuleBroken(_) => backed(self.trail),
+            Tested::SoftViolated(i) => {
+                blame_entry(query.spots, i, self.blame);
+                backed(self.trail)
+            }
+            Tested::Open(_) => Turn::Going,
+            Tested::Full => self.judged(),
+        }
+    }
+
+    // Steps until the query ends or `budget` are made.
+    pub fn turns(&mut self, budget: u32) -> Steps
+        ensures same { Same self.old self.new }
+        ensures turns { turns (turned result.turn self.new.trail.now self.new.blame.now) result.made ≡ turns_of (source_lent self.old.query.now.ground) (query_lent self.old.query.now) budget self.old.trail.now self.old.blame.now }
+    {
+        for made in 0..budget {
+            let turn = self.turn();
+            if !is_going(turn) {
+                return Steps {
+                    turn,
+                    made: made + 1,
+                };
+            }
+        }
+        Steps {
+            turn: Turn::Going,
+            made: budget,
+        }
     }
 }
 

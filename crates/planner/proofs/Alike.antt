@@ -21,7 +21,7 @@ use Rattle.planner.specs.Calls.{Says, gives, Loads, Outcome, outcome, Fills, fil
 use Rattle.planner.specs.Tally.{Call, load, clear, advance, run, look, write, model, name, shown, Reply, Tally, feed_load, feed, Leads}
 use Rattle.planner.specs.Demand.{nth, name_by}
 use Rattle.planner.specs.Alike.{SameHeld, Alike, AnswersAlike, Replies, replies_of, LoadForgets}
-use Rattle.planner.proofs.Link.{formed_source, priorities_is, entries_is}
+use Rattle.planner.proofs.Link.{rules_is, formed_source, priorities_is, entries_is}
 use Rattle.planner.proofs.Symbols.{name_by_lem, shown_gone, shown_by, shown_without}
 use Rattle.planner.proofs.Together.{name_after}
 
@@ -69,7 +69,7 @@ module _ (p p' : Stored) (ix ix' : Preparation) (q : Search) (h : SameHeld (load
   atoms_same = h.here.atoms ∙ ap atoms h.program ∙ sym h.there.atoms
 
   source_same : SameSource (source_of p) (source_of p')
-  source_same = record { n = atoms_same; rules = ap (λ (P : Program). P.rules) h.program; levels = priorities_same; entries = entries_is p h.here ∙ ap (λ (P : Program). P.entries) h.program ∙ sym (entries_is p' h.there) }
+  source_same = record { n = atoms_same; rules = rules_is p h.here ∙ ap (λ (P : Program). P.rules) h.program ∙ sym (rules_is p' h.there); levels = priorities_same; entries = entries_is p h.here ∙ ap (λ (P : Program). P.entries) h.program ∙ sym (entries_is p' h.there) }
 
   formed : FormedSource (source_of p)
   formed = formed_source p h.here

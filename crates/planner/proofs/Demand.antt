@@ -35,7 +35,7 @@ use Rattle.planner.specs.Sound.{Sound}
 use Rattle.planner.specs.Calls.{gives, Loads, outcome, fills, filled, given, level_seen, byte_of, model_bytes, model_call, AfterLoad}
 use Rattle.planner.specs.Tally.{load, Does, Tally, begin}
 use Rattle.planner.specs.Demand.{BestBy, RunIs, Claim, Demand, Demand3}
-use Rattle.planner.proofs.Link.{formed_source, priorities_is, levels_is, weight_is, costs_is, start_is}
+use Rattle.planner.proofs.Link.{model_stable, stable_model, formed_source, priorities_is, levels_is, weight_is, costs_is, start_is}
 use Rattle.planner.proofs.Counting.{figure_min, runs_is, status_running, status_optimum, status_incoherent, status_full, made_most, made_ends, run_advances}
 use Rattle.planner.proofs.Symbols.{or_else, name_by_lem, shown_gone, shown_by, shown_without}
 use Rattle.planner.proofs.Together.{after, stepped_to, told_as, Now, Together, together}
@@ -78,7 +78,7 @@ module _ (t : List ℕ) (p : Stored) (w : WellFormed p) (ix : Preparation) (k : 
             model = best_in q;
             writes = written e;
             exactly = λ b h. written e b ∙ exactly s (atoms P) (model_bytes (best_in q) (atoms P)) b (span_length (byte_of (best_in q)) 1 (atoms P)) h;
-            stable = facts.stable e;
+            stable = model_stable p w (facts.stable e);
             costs = sym (costs_is p w (best_in q)) ∙ sym (facts.upper e);
             shows = λ i y h. shown_by p ix q i y h e;
           }
@@ -97,7 +97,7 @@ module _ (t : List ℕ) (p : Stored) (w : WellFormed p) (ix : Preparation) (k : 
         ap (λ (b : Bool). given b (uppers_in S q)) m,
         λ M g.
             subst (λ (x : List ℤ). NoDearer lt_z x (costs P M)) (sym (facts.upper m))
-            (subst (λ (x : List ℤ). NoDearer lt_z (costs_in S (best_in q)) x) (costs_is p w M) (facts.optimum e M g)),
+            (subst (λ (x : List ℤ). NoDearer lt_z (costs_in S (best_in q)) x) (costs_is p w M) (facts.optimum e M (stable_model p w g))),
       )
 
   few_of : status_of q.phase ≡ status.Running → made_by S k (fresh_for S.levels) < 2 ^ suc (atoms P) * (2 * W P + 1)
@@ -185,11 +185,11 @@ module _ (t : List ℕ) (p : Stored) (w : WellFormed p) (ix : Preparation) (k : 
         writes = λ b. refl;
         names = name_by_lem p ix q;
         unnamed = shown_gone p ix q;
-        lower = λ M g. subst (NoDearer lt_z (lowers_in S q)) (costs_is p w M) (facts.lower M g);
+        lower = λ M g. subst (NoDearer lt_z (lowers_in S q)) (costs_is p w M) (facts.lower M (stable_model p w g));
         best = best_of_lem;
         optimum = optimum_of;
-        incoherent = λ h. facts.none_is (status_incoherent q.phase h);
-        without = λ h g. ap status_of (facts.is_none (sym (runs_is q.phase) ∙ h) g);
+        incoherent = λ h M g. facts.none_is (status_incoherent q.phase h) M (stable_model p w g);
+        without = λ h g. ap status_of (facts.is_none (sym (runs_is q.phase) ∙ h) (λ M m. g M (model_stable p w m)));
         few = few_of;
         patient = patient_of;
         never_full = λ g h. facts.never_full (subst (All (λ (l : List Entry). weight l ≤ 90)) (sym (levels_is p w)) g) (status_full q.phase h);

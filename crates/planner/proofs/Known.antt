@@ -1,7 +1,7 @@
 -- What is known of the program that a service holds, by the ghost field of `Service`. The field's fact is truncated, so each fact that is drawn from it is one that has
 -- one proof at most. Assumes nothing.
-use Rattle.std.proofs.Common.{◌≡◌, ℕ, zero, suc, ◌+◌, ◌*◌, ◌-◌, ◌≤◌, ◌<◌, Bool, true, false, ℤ, nat_abs, List, [], ◌∷◌, length, take, refl, sym, ap, ◌∙◌, subst, arith, ◌⊎◌, inl, inr}
-use Rattle.std.proofs.Math.Logic.{∥∥₁_elim}
+use Rattle.std.proofs.Common.{◌≡◌, ℕ, zero, suc, ◌+◌, ◌-◌, ◌≤◌, ◌<◌, Bool, true, false, ℤ, nat_abs, List, [], ◌∷◌, length, take, refl, sym, ap, ◌∙◌, subst, arith, ◌⊎◌, inl, inr}
+use Rattle.std.proofs.Math.Logic.{∥∥₁_elim, ∥∥₁_prop}
 use Rattle.std.proofs.Props.{props}
 use Rattle.std.specs.Coded.{×_prop, Unit-prop, le_prop}
 use mathlib.Core.HLevel.{Σ_prop_path}
@@ -11,6 +11,8 @@ use Rattle.asp.specs.Sets.{In}
 use Rattle.asp.specs.Tables.{symbol_row}
 use Rattle.asp.specs.declared.symbols.SymbolRow.{SymbolRow}
 use Rattle.asp.specs.Paying.{SymbolFormed}
+use Rattle.aspif.specs.Store.{WellFormed}
+use Rattle.aspif_tables.specs.declared.table.Stored.{Stored}
 use Rattle.cores.proofs.Sums.{below_or}
 use Rattle.advancing.specs.declared.state.Search.{Search}
 use Rattle.advancing.specs.Source.{Source, FormedSource}
@@ -151,9 +153,15 @@ module _ (S : Source) where
 
 -- ---- WHAT IS KNOWN
 
+pub known_tables : {p : Stored} → ∥ WellFormed p ∥₁ → FormedSource (source_of p)
+known_tables {p} h = ∥∥₁_elim h (formed_prop (source_of p)) (formed_source p)
+
 module _ {l : Loaded} (h : ∥ Sound l ∥₁) where
+  pub known_formed : ∥ WellFormed l.stored ∥₁
+  known_formed = ∥∥₁_elim h ∥∥₁_prop (λ s. ∣ s.formed ∣₁)
+
   pub known_source : FormedSource (source_of l.stored)
-  known_source = ∥∥₁_elim h (formed_prop (source_of l.stored)) (λ s. formed_source l.stored s.formed)
+  known_source = known_tables known_formed
 
   pub known_prepared : PreparedFor l.stored l.prepared
   known_prepared = ∥∥₁_elim h (prepared_prop l) (λ s. s.prepared)

@@ -1,5 +1,5 @@
 -- What a service holds: a program with its optimization, or nothing. Assumes nothing: these are definitions.
-use Rattle.std.specs.Prelude.{Option, Some, None, ℕ, take}
+use Rattle.std.specs.Prelude.{Option, Some, None, ℕ, length, take}
 use Rattle.asp.specs.Program.{Symbol}
 use Rattle.asp.specs.Tables.{symbol_row, symbol_at}
 use Rattle.aspif_tables.specs.declared.table.Stored.{Stored}
@@ -31,7 +31,7 @@ fresh_service = None
 -- the tables that its optimization reads
 abbrev pub source_of : Stored → Source
 source_of p =
-    source p.counts.atoms p.pool p.rules p.counts.rules
+    source p.counts.atoms p.pool (take p.counts.rules p.rules) (length (take p.counts.rules p.rules))
     (level_tables (take p.counts.levels p.levels) (take p.counts.entries p.entries))
 
 -- what is made once for the tables: it makes an advance fast, and no answer depends on how it lies

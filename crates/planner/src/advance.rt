@@ -5,7 +5,8 @@ ghost use Rattle.planner.specs.Sound.{Sound};
 ghost use Rattle.planner.specs.Calls.{outcome, says, moved_to, advance_call, count_of, made, ran, run_call};
 
 use crate::service::{Loaded, Refusal, Service, Status};
-use asp::cost::Objective;
+use crate::tables;
+use counting::listed::Listed;
 use optimizer::ground::Ground;
 
 // How many advances were made, and the status after them.
@@ -21,19 +22,18 @@ impl Loaded {
         ensures moved { self.new ≡ moved_to self.old (ran self.old budget) }
         ensures count { result ≡ count_of (made self.old budget) (status_of (ran self.old budget).phase) }
     {
-        let counts = self.stored.counts;
+        let rules = tables::rules(&self.stored);
+        let limited = tables::limited(&self.stored);
         let ground = Ground {
-            atoms: counts.atoms,
-            pool: &self.stored.pool,
-            rows: &self.stored.rules,
-            rules: counts.rules,
-            objective: Objective {
-                levels: &self.stored.levels[..counts.levels],
-                entries: &self.stored.entries[..counts.entries],
+            listed: Listed {
+                rules,
+                lists: &self.prepared.conditions,
             },
-            prepared: &self.prepared,
+            heads: &self.prepared.heads,
+            tried: &self.prepared.tried,
+            limited,
         };
-        let made = optimizer::run::run(&ground, &mut self.search, budget);
+        let made = ground.run(&mut self.search, budget);
         Count {
             made,
             status: Status::from(self.search.phase),

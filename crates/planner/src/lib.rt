@@ -10,4 +10,5 @@ pub mod fill; // calls that fill lent bytes: what they wrote
 pub mod model;
 pub mod print;
 pub mod symbol;
+pub mod tables;
 pub mod write;

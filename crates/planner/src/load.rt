@@ -3,29 +3,18 @@ ghost use Rattle.aspif_lines.specs.Text.{text_of};
 ghost use Rattle.planner.specs.Calls.{outcome, says_load, AfterLoad};
 
 use crate::service::{Loaded, Service};
-use asp::cost::Objective;
+use crate::tables;
 pub use aspif::text::RefusedAt;
 
 impl Service {
     // "accepted, the service is as a fresh one given it, with status running"; refused, it is as before.
-    #[tactic(auto, using(crate::proofs::Link::formed_source, crate::proofs::Link::formed_levels))]
     pub fn load(&mut self, text: &[u8]) -> Result<(), RefusedAt>
         ensures { AfterLoad (text_of text.now) self.old.held (outcome (says_load result) self.new.held) }
     {
         let stored = aspif::text::load(text)?;
-        let counts = stored.counts;
-        let objective = Objective {
-            levels: &stored.levels[..counts.levels],
-            entries: &stored.entries[..counts.entries],
-        };
-        let prepared = optimizer::prepare::prepare(
-            counts.atoms,
-            &stored.pool,
-            &stored.rules,
-            counts.rules,
-            &objective,
-        );
-        let search = optimizer::run::fresh_for(&objective);
+        let limited = tables::limited(&stored);
+        let prepared = optimizer::prepare::prepare(tables::rules(&stored), limited.objective);
+        let search = limited.fresh();
         self.held = Some(Loaded {
             stored,
             prepared,

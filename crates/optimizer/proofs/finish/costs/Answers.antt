@@ -1,5 +1,0 @@
-use Rattle.optimizer.proofs.Running.{costs_are}
-use Rattle.optimizer.proofs.finish.costs.Goals as goal
-
-pub returns : goal.returns
-returns c = costs_are _ _ c.level_costs.ensures

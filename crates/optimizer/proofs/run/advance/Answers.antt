@@ -1,5 +1,0 @@
-use Rattle.advancing.proofs.Advancing.{one_advance}
-use Rattle.optimizer.proofs.run.advance.Goals as goal
-
-pub returns : goal.returns
-returns c = one_advance _ _ c.run.ensures

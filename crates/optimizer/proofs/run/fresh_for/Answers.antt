@@ -1,5 +1,0 @@
-use Rattle.optimizer.proofs.Running.{starts_are}
-use Rattle.optimizer.proofs.run.fresh_for.Goals as goal
-
-pub returns : goal.returns
-returns c = starts_are _ c.level_starts.ensures c.fresh_over.ensures
