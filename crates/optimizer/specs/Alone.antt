@@ -1,13 +1,10 @@
--- That the levels are within the limits, that a query is ready, and that its blame and its trail are in shape, is said in one way only. Assumes nothing.
+-- That the levels are within the limits, that a query is ready, and that its blame is in shape, is said in one way only. Assumes nothing.
 use Rattle.std.specs.Prelude.{◌≤◌, ◌<◌, List, [], ◌∷◌, ℕ, nat_abs}
 use Rattle.std.specs.Coded.{×_prop, Unit-prop, le_prop}
 use Rattle.std.proofs.Props.{props}
 use Rattle.asp.specs.declared.entries.Entry.{Entry}
 use Rattle.asp.specs.Program.{All, LiteralIn, Out, Distinct}
 use Rattle.asp.specs.Alone.{all-prop, rules_in-prop}
-use Rattle.search.specs.declared.trail.Places.{Places}
-use Rattle.search.specs.Trail.{Trail, literal_of, NotOn, FormedTrail}
-use Rattle.search.specs.Places.{SoundTrail}
 use Rattle.advancing.specs.declared.state.Blame.{Blame}
 use Rattle.advancing.specs.Source.{Source, Levels, FormedLevels}
 use Rattle.advancing.specs.Turn.{QueryTables}
@@ -28,7 +25,7 @@ formed_levels-prop L = Prim.hlevel (weights-prop, props)
 pub ready_query-prop : (S : Source) (q : QueryTables) → IsProp (ReadyQuery S q)
 ready_query-prop S q = Prim.hlevel (rules_in-prop, weights-prop, literals-prop, places-prop, props)
 
--- ---- what is blamed, and the trail
+-- ---- what is blamed
 
 not-prop : {A : Type 0} → IsProp (A → ⊥)
 not-prop = Prim.hlevel props
@@ -41,19 +38,5 @@ distinct-prop : (xs : List ℕ) → IsProp (Distinct xs)
 distinct-prop [] = Unit-prop
 distinct-prop (x ∷ xs) = ×_prop (out-prop x xs) (distinct-prop xs)
 
-not_on-prop : (a : ℕ) (t : Trail) → IsProp (NotOn a t)
-not_on-prop a [] = Unit-prop
-not_on-prop a (s ∷ t) = ×_prop not-prop (not_on-prop a t)
-
-formed_trail-prop : (n : ℕ) (t : Trail) → IsProp (FormedTrail n t)
-formed_trail-prop n [] = Unit-prop
-formed_trail-prop n (s ∷ t) =
-    let a = not_on-prop (nat_abs (literal_of s)) t in
-    let b = formed_trail-prop n t in
-    Prim.hlevel (a, b, props)
-
 pub good_blame-prop : (q : QueryTables) (b : Blame) → IsProp (GoodBlame q b)
 good_blame-prop q b = Prim.hlevel (places-prop, distinct-prop, props)
-
-pub sound_trail-prop : (n : ℕ) (t : Places) → IsProp (SoundTrail n t)
-sound_trail-prop n t = Prim.hlevel (formed_trail-prop, props)

@@ -5,7 +5,8 @@ ghost use Rattle.search.specs.Lent.{rules_lent};
 ghost use Rattle.counting.specs.Counts.{Tracks};
 ghost use Rattle.advancing.specs.Turn.{is_going};
 ghost use Rattle.advancing.specs.Ready.{GoodBlame};
-ghost use Rattle.optimizer.specs.Alone.{good_blame-prop, sound_trail-prop};
+ghost use Rattle.search.specs.Alone.{sound_trail-prop};
+ghost use Rattle.optimizer.specs.Alone.{good_blame-prop};
 ghost use Rattle.optimizer.specs.Lent.{query_lent};
 ghost use Rattle.optimizer.specs.Turning.{backed_turn};
 

@@ -9,3 +9,4 @@ pub mod Branch
 pub mod Step
 pub mod Link
 pub mod Lent
+pub mod Alone

@@ -2,11 +2,11 @@
 ghost use Rattle.std.specs.Prelude.{◌≡◌, false, replicate};
 ghost use Rattle.search.specs.Places.{SoundTrail, fresh_places};
 ghost use Rattle.search.specs.Lent.{rules_lent};
+ghost use Rattle.search.specs.Alone.{sound_trail-prop};
 ghost use Rattle.indexing.specs.Sorting.{Sorted};
 ghost use Rattle.counting.specs.Counts.{Tracks};
 ghost use Rattle.std.proofs.Props.{props};
 ghost use Rattle.search_traces.specs.Stored.{Wished};
-ghost use Rattle.search_traces.specs.Alone.{sound_prop};
 
 use crate::program::Program;
 use counting::counters::Counters;
@@ -29,7 +29,7 @@ pub struct Machine<'a> {
     // Kept: 1 where blamed, as `search` reads it
     pub blamed: [u8; 8],
     pub ghost wishes: { Wished listed.rules.atoms wished.now } by { Prim.hlevel props },
-    pub ghost sound: { SoundTrail listed.rules.atoms trail } by { sound_prop _ _ },
+    pub ghost sound: { SoundTrail listed.rules.atoms trail } by { sound_trail-prop _ _ },
     pub ghost tracks: { Tracks (rules_lent listed.rules) listed.lists.now trail.value counters },
 }
 
