@@ -1,13 +1,9 @@
-use Rattle.std.proofs.Common.{refl}
-use Rattle.stepping.proofs.MoveLaws.{put_done, atom_small, unnamed}
+use Rattle.stepping.proofs.MoveLaws.{put_done, unnamed}
 use Rattle.stepping.proofs.trail.put.Goals as goal
 
 pub returns-then-not-is_named : goal.returns-then-not-is_named
 returns-then-not-is_named c =
     put_done _ _ _ _ c.args.trail.now c.args.t.now c.requires.1 c.atom-a.ensures c.side.ensures c.assign.ensures c.put.ensures (unnamed _ _ _ c.is_named.ensures c.if-not-is_named.true _ _)
-
-pub reweigh-requires : goal.reweigh-requires
-reweigh-requires c = atom_small c.args.l c.requires.1 c.atom-a.ensures
 
 pub returns : goal.returns
 returns c = put_done _ _ _ _ c.args.trail.now c.args.t.now c.requires.1 c.atom-a.ensures c.side.ensures c.assign.ensures c.put.ensures c.reweigh.ensures
