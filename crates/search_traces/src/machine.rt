@@ -122,7 +122,11 @@ impl Machine<'_> {
 impl fmt::Display for Machine<'_> {
     fn fmt<W: fmt::Write>(&self, f: &mut fmt::Formatter<W>) -> fmt::Result {
         for (i, l) in self.trail.lits[..self.trail.len].iter().enumerate() {
-            let star = if self.trail.marks[i].is_decision() { "*" } else { "" };
+            let star = if self.trail.marks[i].is_decision() {
+                "*"
+            } else {
+                ""
+            };
             write!(f, " {l}{star}")?;
         }
         Ok(())
