@@ -5,6 +5,8 @@ use mathlib.Core.List.{List, [], ◌∷◌}
 use mathlib.Core.Logic.{◌⊎◌, inl, inr, ⊎_elim}
 use Prim.Native.Nat.{ℕ, zero, suc, ◌+◌, ◌-◌, ◌*◌, ◌<◌, ◌≤◌, min}
 use native.Mathlib.Omega.{arith}
+use Rattle.std.specs.Prelude.{Option, Some, None}
+use Rattle.std.specs.List.{slice_get}
 use lib.Dec.{leb, ltb, eqb}
 use lib.IntN.{ℤ, pos, negsuc, nat_abs}
 use lib.ListN.{length, drop, drop_of_length-le}
@@ -63,24 +65,38 @@ pub record Scanning (s l : List ℕ) (v : ℕ) : Type 0 where
 pub scan_none : (s : List ℕ) → Scanning s s 0
 scan_none s = record { low = omega arith; value = refl; past = refl; count = refl }
 
-pub scan_more : (s l m : List ℕ) (v w b : ℕ) → Scanning s l v → is_digit (next l) ≡ true → b ≡ next l → w ≡ min limit (v * 10 + (b - 48)) → m ≡ drop 1 l → Scanning s m w
+pub scan_more : (s l m : List ℕ) (v w b : ℕ) → Scanning s l v → Some b ≡ slice_get l 0 → is_digit b ≡ true → w ≡ min limit (v * 10 + (b - 48)) → m ≡ drop 1 l → Scanning s m w
 unfolding decimal
-scan_more s [] m v w b h d e f g = absurd (omega (arith, digit_low 0 d))
-scan_more s (c ∷ l) m v w b h d e f g =
-    let more = digits_more (c ∷ l) d in
+scan_more s [] m v w b h e d f g = let z : ◌≡◌ {A = Option ℕ} (Some b) None = e in cc
+scan_more s (c ∷ l) m v w b h e d f g =
+    let same : b ≡ c = cc in
+    let more = digits_more (c ∷ l) (rw same at d) in
     let z = rw more at h.value in
     let p = rw more at h.past in
     let q = rw more at h.count in
-    rw (g, f, e) (record { low = omega arith; value = cut (digits l) (v * 10 + (c - 48)) ∙ z; past = p; count = omega (arith, q) })
+    rw (g, f, same) (record { low = omega arith; value = cut (digits l) (v * 10 + (c - 48)) ∙ z; past = p; count = omega (arith, q) })
 
-pub scan_done : (s l : List ℕ) (v : ℕ) → Scanning s l v → is_digit (next l) ≡ false → (v ≡ min limit (decimal 0 (digits s))) × (l ≡ drop (length (digits s)) s) × (length l + length (digits s) ≡ length s)
+-- the scan is over where no digit comes next
+abbrev pub Over : List ℕ → Type 0
+Over l = is_digit (next l) ≡ false
+
+pub scan_value : (s l : List ℕ) (v : ℕ) → Scanning s l v → Over l → v ≡ min limit (decimal 0 (digits s))
 unfolding decimal
-scan_done s l v h d =
-    let none = digits_none l d in
-    let z = rw none at h.value in
-    let p = rw none at h.past in
-    let q = rw none at h.count in
-    (omega (arith, z, h.low), p, omega (arith, q))
+scan_value s l v h d = let z = rw (digits_none l d) at h.value in omega (arith, z, h.low)
+
+pub scan_past : (s l : List ℕ) (v : ℕ) → Scanning s l v → Over l → l ≡ drop (length (digits s)) s
+scan_past s l v h d = rw (digits_none l d) at h.past
+
+pub scan_count : (s l : List ℕ) (v : ℕ) → Scanning s l v → Over l → length l + length (digits s) ≡ length s
+scan_count s l v h d = let q = rw (digits_none l d) at h.count in omega (arith, q)
+
+pub at_end : (l : List ℕ) → None ≡ slice_get l 0 → is_digit (next l) ≡ false
+at_end [] e = refl
+at_end (c ∷ l) e = let z : ◌≡◌ {A = Option ℕ} None (Some c) = e in cc
+
+pub at_other : (l : List ℕ) (b : ℕ) → Some b ≡ slice_get l 0 → is_digit b ≡ false → is_digit (next l) ≡ false
+at_other [] b e d = refl
+at_other (c ∷ l) b e d = let same : b ≡ c = cc in rw same at d
 
 formed_cases : (b : Bool) (v : ℕ) (r : List ℕ) → capped (pick b (got v r) (bad 2)) ≡ pick b (got (min limit v) r) (bad 2)
 formed_cases true v r = refl

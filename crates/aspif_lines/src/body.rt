@@ -72,6 +72,7 @@ fn read_weighted(
     let bound = rest.read_natural(0, MOST_BOUND)?;
     let count = rest.read_natural(0, MOST_COUNT)?;
     let top = read_weights(rest, count, pool, used, start)?;
+    // Kept: the cast, since 1,000,000,000 fits: `try_from` would want a refusal for a number that cannot be.
     pool[used + count] = bound as i32;
     let kind = weighed_kind(&pool[used..used + count]);
     Ok(BodyPart { kind, count, top })
