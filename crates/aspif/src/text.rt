@@ -90,6 +90,7 @@ fn read_lines(p: &mut Stored, s: &[u8]) -> Result<(), RefusedAt>
     ensures answer { seen_verdict p.new result ≡ lines 2 (reading_in p.old) (pieces s.now) }
     ensures after { IfOk result (λ u. Sound p.new) }
 {
+    // Kept: a `for` over the numbers of the lines would want an end, and an answer for a text that goes past it.
     let mut rest = s;
     let mut line: usize = 2;
     while let Some(next) = one_line(p, rest, line)? {

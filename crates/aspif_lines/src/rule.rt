@@ -35,7 +35,7 @@ pub fn read_rule(
     let highest = read_members(rest, |rest| rest.read_atom(), heads, pool, used, start)?;
     let body = read_body(rest, pool, used + heads, highest)?;
     read_end(rest)?;
-    // Kept: the casts, since a place of the pool fits, and a count is at most 1,024: `try_from` would want a refusal for a number that cannot be.
+    // Kept: the casts, since a place of the pool is below 65,536 and a count at most 1,024: `try_from` would want a refusal for a number that cannot be.
     let row = Row {
         head: opening.head,
         body: body.kind,

@@ -47,6 +47,7 @@ pub enum LineTurn {
     Goes,
 }
 
+// Kept: `Within` stands in the contract, as in add.rt: the line may pass a limit, which is judged after it.
 impl Stored {
     // A line, without its byte 10. It is stored first, since a symbol's name is a part of the stored text; a comment leaves the text at its old length.
     pub fn take_line(&mut self, s: &[u8]) -> Result<LineTurn, Refusal>
