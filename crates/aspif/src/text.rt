@@ -101,6 +101,7 @@ fn read_lines(p: &mut Stored, s: &[u8]) -> Result<(), RefusedAt>
 }
 
 // Line 1.
+#[tactic(auto, using(crate::proofs::Texts::same_pointwise))]
 fn is_header(l: &[u8]) -> bool
     ensures { result ≡ same_bytes l.now header }
 {
@@ -108,6 +109,7 @@ fn is_header(l: &[u8]) -> bool
 }
 
 // The whole text into the tables.
+#[tactic(auto, using(crate::proofs::Texts::text_long, crate::proofs::Texts::text_wrong, crate::proofs::Texts::text_cut))]
 fn read_text(p: &mut Stored, s: &[u8]) -> Result<(), RefusedAt>
     requires counts { p.old.counts ≡ no_counts 0 }
     requires sized { Sized (lists_of p.old) }

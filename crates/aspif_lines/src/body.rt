@@ -25,6 +25,7 @@ pub struct BodyPart {
 }
 
 // Of a body with these literals and their weights.
+#[tactic(auto, unfolding(asp::specs::Tables::is_weighted, asp::specs::Tables::is_mixed))]
 fn weighed_kind(literals: &[i32]) -> BodyKind
     requires { All (LiteralIn 1024) literals.now }
     ensures weighed { is_weighted result ≡ true }
@@ -38,7 +39,7 @@ fn weighed_kind(literals: &[i32]) -> BodyKind
 }
 
 // `k literals`
-#[tactic(auto, unfolding(crate::specs::Text::normal_body))]
+#[tactic(auto, unfolding(crate::specs::Text::normal_body, asp::specs::Tables::is_weighted))]
 fn read_normal(
     rest: &mut Rest,
     pool: &mut [i32],

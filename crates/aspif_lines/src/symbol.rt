@@ -30,6 +30,7 @@ fn goes_on(rest: &Rest) -> bool
 }
 
 // The m bytes of a name. A byte outside 32 to 126, or none, is refusal 2.
+#[tactic(auto, using(crate::proofs::Names::name_start, crate::proofs::Names::name_stop, crate::proofs::Names::name_done))]
 fn read_bytes(rest: &mut Rest, m: usize) -> Result<(), Refusal>
     ensures answer { read_into result (bytes_at rest.old.bytes.now 0 m) rest.new.bytes.now ≡ more name_byte m [] rest.old.bytes.now }
     ensures inside { IfOk result (λ u. m + length rest.new.bytes.now ≡ length rest.old.bytes.now) }

@@ -18,6 +18,7 @@ fn line_end(s: &[u8]) -> Option<usize>
 }
 
 // The line that comes next, and what follows its byte 10; nothing follows without it.
+#[tactic(auto, using(crate::proofs::Pieces::split_none))]
 pub fn split_line(s: &[u8]) -> (&[u8], Option<&[u8]>)
     ensures split { pieces s.now ≡ result.0.now ∷ followed result.1 }
     ensures long { SplitLong (length s.now) (length result.0.now) result.1 }

@@ -2,17 +2,8 @@ use Rattle.std.proofs.Common.{ap, sym, ◌∙◌, subst}
 use Rattle.aspif_lines.specs.Text.{lines, pieces, header, Reading}
 use Rattle.aspif_tables.specs.Lists.{lists, Sized, SoundLists, reading_of}
 use Rattle.aspif_tables.specs.declared.table.Counts.{Counts}
-use Rattle.aspif.proofs.Texts.{same_true, text_wrong, text_cut, text_lines, text_long, none_sound, none_opened}
+use Rattle.aspif.proofs.Texts.{same_true, text_lines, none_sound, none_opened}
 use Rattle.aspif.proofs.text.read_text.Goals as goal
-
-pub returns-then-s-gt-MOST_BYTES-clause-answer : goal.returns-then-s-gt-MOST_BYTES-clause-answer
-returns-then-s-gt-MOST_BYTES-clause-answer c = text_long c.args.s.now c.if-s-gt-MOST_BYTES.true
-
-pub returns-then-not-is_header-clause-answer : goal.returns-then-not-is_header-clause-answer
-returns-then-not-is_header-clause-answer c = text_wrong _ _ c.if-s-gt-MOST_BYTES.false c.split_line.ensures.split (sym c.is_header.ensures ∙ c.if-not-is_header.true)
-
-pub returns-in_default-clause-answer : goal.returns-in_default-clause-answer
-returns-in_default-clause-answer c = text_cut _ _ c.if-s-gt-MOST_BYTES.false (rw c.in_default.is at c.split_line.ensures.split) (sym c.is_header.ensures ∙ c.if-not-is_header.false)
 
 pub read_lines-requires-clause-sound : goal.read_lines-requires-clause-sound
 read_lines-requires-clause-sound c =
