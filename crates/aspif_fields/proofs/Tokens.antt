@@ -8,13 +8,13 @@ use native.Mathlib.Omega.{arith}
 use Rattle.std.specs.Prelude.{Option, Some, None}
 use Rattle.std.specs.List.{slice_get}
 use lib.Dec.{leb, ltb, eqb}
-use lib.IntN.{ℤ, pos, negsuc, nat_abs}
+use lib.IntN.{ℤ, pos, negsuc}
 use lib.ListN.{length, drop, drop_of_length-le}
 use borrow.Author.Tests.{ltb-true, ltb-false, leb-true, lt-leb, ne_eqb}
 use Rattle.std.proofs.Math.Seq.{drop-length}
 use Rattle.std.proofs.lemmas.List.{length-drop, drop-drop}
 use Rattle.asp.specs.Sets.{pick}
-use Rattle.aspif_fields.specs.Fields.{Read, got, bad, bind, within, formed, token, ranged, number, natural, with_sign, signing, signed_token, signed_up_to, signed, field, next, is_digit, digits, decimal, over}
+use Rattle.aspif_fields.specs.Fields.{Read, got, bad, bind, within, formed, token, ranged, number, natural, signing, signed_token, signed_up_to, signed, field, next, is_digit, digits, decimal, over}
 use Rattle.aspif_fields.specs.SeenFields.{capped, cut_signed, capped_signed, Ending}
 
 pub lt_or_le : (a b : ℕ) → (a < b) ⊎ (b ≤ a)
@@ -29,11 +29,6 @@ within_ends lo hi b h = let e = (and-eq-true_iff (leb lo b) (leb b hi)).0 h in (
 
 pub digit_low : (b : ℕ) → is_digit b ≡ true → 48 ≤ b
 digit_low b h = (within_ends 48 57 b h).0
-
--- at the end there is no byte but 0, and 0 is no digit
-pub digit_in : (l : List ℕ) → is_digit (next l) ≡ true → 0 < length l
-digit_in [] h = absurd (omega (arith, digit_low 0 h))
-digit_in (b ∷ l) h = omega arith
 
 pub digits_more : (l : List ℕ) → is_digit (next l) ≡ true → digits l ≡ next l ∷ digits (drop 1 l)
 unfolding digits
@@ -61,9 +56,6 @@ pub record Scanning (s l : List ℕ) (v : ℕ) : Type 0 where
   pub value : min limit (decimal v (digits l)) ≡ min limit (decimal 0 (digits s))
   pub past : drop (length (digits l)) l ≡ drop (length (digits s)) s
   pub count : length l + length (digits s) ≡ length s + length (digits l)
-
-pub scan_none : (s : List ℕ) → Scanning s s 0
-scan_none s = record { low = omega arith; value = refl; past = refl; count = refl }
 
 pub scan_more : (s l m : List ℕ) (v w b : ℕ) → Scanning s l v → Some b ≡ slice_get l 0 → is_digit b ≡ true → w ≡ min limit (v * 10 + (b - 48)) → m ≡ drop 1 l → Scanning s m w
 unfolding decimal
@@ -170,11 +162,6 @@ minus_by l m r minus h e f g = rw (h, ← e, ← f) (go minus g)
 
 pub no_space : (l : List ℕ) → eqb (next l) 32 ≡ false → field signed_token l ≡ bad 2
 no_space l h = rw h
-
-pub abs_sign : (minus : Bool) (v : ℕ) → nat_abs (with_sign minus v) ≡ v
-abs_sign false v = refl
-abs_sign true zero = refl
-abs_sign true (suc v) = refl
 
 cut_upto : (hi : ℕ) (z : ℤ) (r : List ℕ) → hi ≤ 1000000000 → signed_up_to hi z r ≡ signed_up_to hi (cut_signed z) r
 cut_upto hi (pos n) r h = ⊎_elim

@@ -2,7 +2,7 @@
 ghost use Rattle.std.specs.Prelude.{◌&&◌, ◌≡◌, ◌+◌, ◌-◌, ◌*◌, ◌<◌, ◌≤◌, min, eqb, ltb, length, drop, true, false, not, nat_abs, IfSome, MatchOption};
 ghost use Rattle.std.specs.List.{slice_get};
 ghost use Rattle.asp.specs.Sets.{pick};
-ghost use Rattle.aspif_fields.specs.Fields.{next, is_digit, digits, decimal, nil, over, with_sign, token, field, signed_token};
+ghost use Rattle.aspif_fields.specs.Fields.{next, is_digit, digits, decimal, nil, over, token, field, signed_token};
 ghost use Rattle.aspif_fields.specs.SeenFields.{capped, capped_signed, due};
 
 // Above every range: no value of a token is greater.
