@@ -24,9 +24,6 @@ unfoldable pub joined : List (List ℕ) → List ℕ
 joined [] = []
 joined (l ∷ ls) = line l ++ joined ls
 
-longer_cons : (b : ℕ) (l : List ℕ) (ls : List (List ℕ)) → longer b (l ∷ ls) ≡ (b ∷ l) ∷ ls
-longer_cons b l ls = refl
-
 pieces_line : (l : List ℕ) (s : List ℕ) → All (λ (b : ℕ). eqb b 10 ≡ false) l → pieces (line l ++ s) ≡ l ∷ pieces s
 unfolding pieces
 pieces_line [] s c = refl

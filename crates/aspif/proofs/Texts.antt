@@ -12,7 +12,7 @@ use Rattle.asp.specs.Program.{highest}
 use Rattle.asp.specs.Tables.{span}
 use Rattle.aspif_lines.specs.Text.{same_bytes, header, line, pieces, headed, opened_reading, lines, text_of, refused, sum}
 use Rattle.aspif_lines.specs.Seen.{bytes_at}
-use Rattle.aspif_tables.specs.Lists.{Lists, no_counts, Sized, reading_of, SoundLists, Within}
+use Rattle.aspif_tables.specs.Lists.{Lists, no_counts, Sized, reading_of, SoundLists}
 use Rattle.aspif.proofs.Onwards.{pieces_some}
 
 pub same_true : (k l : List ℕ) → same_bytes k l ≡ true → k ≡ l
@@ -62,9 +62,6 @@ module _ (t : Lists) (used : ℕ) where
     levels = tt;
     atoms = refl;
   }
-
-  pub none_within : Within (no_counts used)
-  none_within = record { rules = omega arith; used = omega arith; entries = omega arith; levels = omega arith; symbols = omega arith; conditions = omega arith; names = omega arith }
 
   pub none_opened : (u l : List ℕ) → l ≡ header → bytes_at t.text 0 used ≡ bytes_at u 0 0 ++ line l → reading_of t (no_counts used) ≡ opened_reading
   unfolding span

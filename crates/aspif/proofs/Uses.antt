@@ -12,7 +12,7 @@ use Rattle.asp.specs.Sets.{In}
 use Rattle.asp.specs.Program.{All, LiteralIn}
 use Rattle.asp.specs.Tables.{span, entry_at}
 use Rattle.aspif_lines.specs.Seen.{bytes_at}
-use Rattle.aspif.specs.Store.{stored_text, WellFormed}
+use Rattle.aspif.specs.Store.{WellFormed}
 use Rattle.aspif_tables.specs.declared.table.Stored.{Stored}
 
 -- what holds of all of a span holds at each of its places
@@ -27,10 +27,6 @@ pub bytes_part : (s : List ℕ) (i k : ℕ) → i + k ≤ length s → bytes_at 
 unfolding span
 bytes_part s i zero h = refl
 bytes_part s i (suc k) h = rw (drop-cons s i 0 (omega arith), ← add-one i, bytes_part s (i + 1) k (omega arith))
-
--- the stored text, as the front of its table
-pub text_part : (p : Stored) → WellFormed p → stored_text p ≡ take p.counts.text p.text
-text_part p w = bytes_part p.text 0 p.counts.text (omega (arith, w.text, w.sized.text))
 
 -- the literal of entry j has an atom of 1 to n, and its weight is in its range
 pub entry_in : (p : Stored) → WellFormed p → (j : ℕ) → j < p.counts.entries → In p.counts.atoms (nat_abs (entry_at p.entries j).literal) × (nat_abs (entry_at p.entries j).weight ≤ 1000000)

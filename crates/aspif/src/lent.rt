@@ -8,6 +8,7 @@ use asp::cost::Objective;
 use asp::rules::RuleTable;
 
 // Its rules.
+#[tactic(auto, using(crate::proofs::Fronts::lent_rules, crate::proofs::Fronts::lent_formed))]
 pub fn rule_table(p: &Stored) -> RuleTable<'_>
     requires { WellFormed p.now }
     ensures atoms { result.atoms ≡ p.now.counts.atoms }
@@ -23,6 +24,7 @@ pub fn rule_table(p: &Stored) -> RuleTable<'_>
 }
 
 // Its levels and entries.
+#[tactic(auto, using(crate::proofs::Fronts::lent_levels, crate::proofs::Fronts::lent_entries, crate::proofs::Fronts::lent_objective))]
 pub fn objective(p: &Stored) -> Objective<'_>
     requires { WellFormed p.now }
     ensures levels { result.levels.now ≡ take p.now.counts.levels p.now.levels }

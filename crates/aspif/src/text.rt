@@ -90,6 +90,7 @@ fn read_lines(p: &mut Stored, s: &[u8]) -> Result<(), RefusedAt>
     ensures answer { seen_verdict p.new result ≡ lines 2 (reading_in p.old) (pieces s.now) }
     ensures after { IfOk result (λ u. Sound p.new) }
 {
+    // Kept: a `for` over the numbers of the lines would want an end, and an answer for a text that goes past it.
     let mut rest = s;
     let mut line: usize = 2;
     while let Some(next) = one_line(p, rest, line)? {
@@ -100,6 +101,7 @@ fn read_lines(p: &mut Stored, s: &[u8]) -> Result<(), RefusedAt>
 }
 
 // Line 1.
+#[tactic(auto, using(crate::proofs::Texts::same_pointwise))]
 fn is_header(l: &[u8]) -> bool
     ensures { result ≡ same_bytes l.now header }
 {
@@ -107,6 +109,7 @@ fn is_header(l: &[u8]) -> bool
 }
 
 // The whole text into the tables.
+#[tactic(auto, using(crate::proofs::Texts::text_long, crate::proofs::Texts::text_wrong, crate::proofs::Texts::text_cut))]
 fn read_text(p: &mut Stored, s: &[u8]) -> Result<(), RefusedAt>
     requires counts { p.old.counts ≡ no_counts 0 }
     requires sized { Sized (lists_of p.old) }

@@ -10,6 +10,7 @@ pub struct Short {
 }
 
 // The first `used` bytes of the text: how many were written.
+#[tactic(auto, using(crate::proofs::Writes::write_short))]
 pub fn write(text: &[u8], used: usize, buffer: &mut [u8]) -> Result<usize, Short>
     requires { used ≤ length text.now }
     ensures { (result ≡ written_of used (length buffer.old)) × (buffer.new ≡ buffer_of (bytes_at text.now 0 used) buffer.old) }

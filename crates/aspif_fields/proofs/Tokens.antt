@@ -5,14 +5,16 @@ use mathlib.Core.List.{List, [], ◌∷◌}
 use mathlib.Core.Logic.{◌⊎◌, inl, inr, ⊎_elim}
 use Prim.Native.Nat.{ℕ, zero, suc, ◌+◌, ◌-◌, ◌*◌, ◌<◌, ◌≤◌, min}
 use native.Mathlib.Omega.{arith}
+use Rattle.std.specs.Prelude.{Option, Some, None}
+use Rattle.std.specs.List.{slice_get}
 use lib.Dec.{leb, ltb, eqb}
-use lib.IntN.{ℤ, pos, negsuc, nat_abs}
+use lib.IntN.{ℤ, pos, negsuc}
 use lib.ListN.{length, drop, drop_of_length-le}
 use borrow.Author.Tests.{ltb-true, ltb-false, leb-true, lt-leb, ne_eqb}
 use Rattle.std.proofs.Math.Seq.{drop-length}
 use Rattle.std.proofs.lemmas.List.{length-drop, drop-drop}
 use Rattle.asp.specs.Sets.{pick}
-use Rattle.aspif_fields.specs.Fields.{Read, got, bad, bind, within, formed, token, ranged, number, natural, with_sign, signing, signed_token, signed_up_to, signed, field, next, is_digit, digits, decimal, over}
+use Rattle.aspif_fields.specs.Fields.{Read, got, bad, bind, within, formed, token, ranged, number, natural, signing, signed_token, signed_up_to, signed, field, next, is_digit, digits, decimal, over}
 use Rattle.aspif_fields.specs.SeenFields.{capped, cut_signed, capped_signed, Ending}
 
 pub lt_or_le : (a b : ℕ) → (a < b) ⊎ (b ≤ a)
@@ -27,11 +29,6 @@ within_ends lo hi b h = let e = (and-eq-true_iff (leb lo b) (leb b hi)).0 h in (
 
 pub digit_low : (b : ℕ) → is_digit b ≡ true → 48 ≤ b
 digit_low b h = (within_ends 48 57 b h).0
-
--- at the end there is no byte but 0, and 0 is no digit
-pub digit_in : (l : List ℕ) → is_digit (next l) ≡ true → 0 < length l
-digit_in [] h = absurd (omega (arith, digit_low 0 h))
-digit_in (b ∷ l) h = omega arith
 
 pub digits_more : (l : List ℕ) → is_digit (next l) ≡ true → digits l ≡ next l ∷ digits (drop 1 l)
 unfolding digits
@@ -60,27 +57,38 @@ pub record Scanning (s l : List ℕ) (v : ℕ) : Type 0 where
   pub past : drop (length (digits l)) l ≡ drop (length (digits s)) s
   pub count : length l + length (digits s) ≡ length s + length (digits l)
 
-pub scan_none : (s : List ℕ) → Scanning s s 0
-scan_none s = record { low = omega arith; value = refl; past = refl; count = refl }
-
-pub scan_more : (s l m : List ℕ) (v w b : ℕ) → Scanning s l v → is_digit (next l) ≡ true → b ≡ next l → w ≡ min limit (v * 10 + (b - 48)) → m ≡ drop 1 l → Scanning s m w
+pub scan_more : (s l m : List ℕ) (v w b : ℕ) → Scanning s l v → Some b ≡ slice_get l 0 → is_digit b ≡ true → w ≡ min limit (v * 10 + (b - 48)) → m ≡ drop 1 l → Scanning s m w
 unfolding decimal
-scan_more s [] m v w b h d e f g = absurd (omega (arith, digit_low 0 d))
-scan_more s (c ∷ l) m v w b h d e f g =
-    let more = digits_more (c ∷ l) d in
+scan_more s [] m v w b h e d f g = let z : ◌≡◌ {A = Option ℕ} (Some b) None = e in cc
+scan_more s (c ∷ l) m v w b h e d f g =
+    let same : b ≡ c = cc in
+    let more = digits_more (c ∷ l) (rw same at d) in
     let z = rw more at h.value in
     let p = rw more at h.past in
     let q = rw more at h.count in
-    rw (g, f, e) (record { low = omega arith; value = cut (digits l) (v * 10 + (c - 48)) ∙ z; past = p; count = omega (arith, q) })
+    rw (g, f, same) (record { low = omega arith; value = cut (digits l) (v * 10 + (c - 48)) ∙ z; past = p; count = omega (arith, q) })
 
-pub scan_done : (s l : List ℕ) (v : ℕ) → Scanning s l v → is_digit (next l) ≡ false → (v ≡ min limit (decimal 0 (digits s))) × (l ≡ drop (length (digits s)) s) × (length l + length (digits s) ≡ length s)
+-- the scan is over where no digit comes next
+abbrev pub Over : List ℕ → Type 0
+Over l = is_digit (next l) ≡ false
+
+pub scan_value : (s l : List ℕ) (v : ℕ) → Scanning s l v → Over l → v ≡ min limit (decimal 0 (digits s))
 unfolding decimal
-scan_done s l v h d =
-    let none = digits_none l d in
-    let z = rw none at h.value in
-    let p = rw none at h.past in
-    let q = rw none at h.count in
-    (omega (arith, z, h.low), p, omega (arith, q))
+scan_value s l v h d = let z = rw (digits_none l d) at h.value in omega (arith, z, h.low)
+
+pub scan_past : (s l : List ℕ) (v : ℕ) → Scanning s l v → Over l → l ≡ drop (length (digits s)) s
+scan_past s l v h d = rw (digits_none l d) at h.past
+
+pub scan_count : (s l : List ℕ) (v : ℕ) → Scanning s l v → Over l → length l + length (digits s) ≡ length s
+scan_count s l v h d = let q = rw (digits_none l d) at h.count in omega (arith, q)
+
+pub at_end : (l : List ℕ) → None ≡ slice_get l 0 → is_digit (next l) ≡ false
+at_end [] e = refl
+at_end (c ∷ l) e = let z : ◌≡◌ {A = Option ℕ} None (Some c) = e in cc
+
+pub at_other : (l : List ℕ) (b : ℕ) → Some b ≡ slice_get l 0 → is_digit b ≡ false → is_digit (next l) ≡ false
+at_other [] b e d = refl
+at_other (c ∷ l) b e d = let same : b ≡ c = cc in rw same at d
 
 formed_cases : (b : Bool) (v : ℕ) (r : List ℕ) → capped (pick b (got v r) (bad 2)) ≡ pick b (got (min limit v) r) (bad 2)
 formed_cases true v r = refl
@@ -154,11 +162,6 @@ minus_by l m r minus h e f g = rw (h, ← e, ← f) (go minus g)
 
 pub no_space : (l : List ℕ) → eqb (next l) 32 ≡ false → field signed_token l ≡ bad 2
 no_space l h = rw h
-
-pub abs_sign : (minus : Bool) (v : ℕ) → nat_abs (with_sign minus v) ≡ v
-abs_sign false v = refl
-abs_sign true zero = refl
-abs_sign true (suc v) = refl
 
 cut_upto : (hi : ℕ) (z : ℤ) (r : List ℕ) → hi ≤ 1000000000 → signed_up_to hi z r ≡ signed_up_to hi (cut_signed z) r
 cut_upto hi (pos n) r h = ⊎_elim

@@ -2,6 +2,7 @@
 use Rattle.std.specs.Prelude.{◌≡◌, List, ℕ, ◌-◌, ◌≤◌, min, ℤ, pos, negsuc, nat_abs, length, drop, Option, Some, None, Result, Ok, Err}
 use Rattle.asp.specs.declared.entries.Entry.{Entry}
 use Rattle.asp.specs.Program.{Weighed}
+use Rattle.asp.specs.Tables.{is_choice}
 use Rattle.aspif_fields.specs.Fields.{Read, got, bad, Opening}
 use Rattle.aspif_fields.specs.Refusals.{refusal_number}
 use Rattle.aspif_fields.specs.declared.refusal.Refusal.{Refusal}
@@ -51,7 +52,7 @@ capped_signed (bad c) = bad c
 -- ---- how a rule opens, pairs
 
 abbrev pub opening_of : Opens → Opening
-opening_of o = record { choice = o.choice; count = o.count }
+opening_of o = record { choice = is_choice o.head; count = o.count }
 
 abbrev pub entry_of : ℤ → Pair → Entry
 entry_of p q = record { priority = p; literal = q.literal; weight = q.weight }

@@ -33,6 +33,7 @@ fn in_range(value: usize, lo: usize, hi: usize) -> Result<usize, Refusal>
 
 impl<'a> Rest<'a> {
     // A number, by form and range.
+    #[tactic(auto, using(crate::proofs::Tokens::numbered, crate::proofs::Tokens::unnumbered), unfolding(crate::specs::Fields::number))]
     pub fn read_number(&mut self, lo: usize, hi: usize) -> Result<usize, Refusal>
         requires { hi ≤ 1000000000 }
         ensures answer { read result self.new.bytes.now ≡ number lo hi self.old.bytes.now }
@@ -45,6 +46,7 @@ impl<'a> Rest<'a> {
     }
 
     // A space, and a number.
+    #[tactic(auto, using(crate::proofs::Tokens::natural_token, crate::proofs::Tokens::numbered, crate::proofs::Tokens::unnumbered))]
     pub fn read_natural(&mut self, lo: usize, hi: usize) -> Result<usize, Refusal>
         requires { hi ≤ 1000000000 }
         ensures answer { read result self.new.bytes.now ≡ natural lo hi self.old.bytes.now }

@@ -1,38 +1,35 @@
 // `h m`: how a rule opens.
-ghost use Rattle.std.specs.Prelude.{◌&&◌, ◌≡◌, ◌≤◌, eqb, ltb, false, IfOk};
+ghost use Rattle.std.specs.Prelude.{◌≡◌, ◌≤◌, false, IfOk};
+ghost use Rattle.asp.specs.Tables.{is_choice};
 ghost use Rattle.aspif_fields.specs.Fields.{opening};
 ghost use Rattle.aspif_fields.specs.SeenFields.{read_as, opening_of};
 
 use super::field::MOST_COUNT;
 use super::refusal::Refusal;
 use super::token::Rest;
+use asp::rules::HeadKind;
 
-// How a rule opens: whether it is a choice, and how many head atoms follow.
+// How a rule opens: what its head is, and how many atoms follow.
 #[derive(Clone, Copy, PartialEq, Eq, Debug)]
 pub struct Opens {
-    pub choice: bool,
+    pub head: HeadKind,
     pub count: usize,
 }
 
-// A plain head of more than one atom.
-fn too_many(h: usize, m: usize) -> bool
-    ensures { result ≡ (eqb h 0 && ltb 1 m) }
-{
-    h == 0 && 1 < m
-}
-
 impl<'a> Rest<'a> {
-    #[tactic(auto, unfolding(crate::specs::Fields::opening))]
+    #[tactic(auto, unfolding(crate::specs::Fields::opening, asp::specs::Tables::is_choice))]
     pub fn read_opening(&mut self) -> Result<Opens, Refusal>
         ensures answer { read_as opening_of result self.new.bytes.now ≡ opening self.old.bytes.now }
-        ensures range { IfOk result (λ o. (o.count ≤ 1024) × (o.choice ≡ false → o.count ≤ 1)) }
+        ensures range { IfOk result (λ o. (o.count ≤ 1024) × (is_choice o.head ≡ false → o.count ≤ 1)) }
     {
-        let h = self.read_natural(0, 1)?;
+        let head = match self.read_natural(0, 1)? {
+            0 => HeadKind::Plain,
+            _ => HeadKind::Choice,
+        };
         let count = self.read_natural(0, MOST_COUNT)?;
-        if too_many(h, count) {
-            return Err(Refusal::Unread);
+        if !head.is_choice() && 1 < count {
+            return Err(Refusal::Unread); // a plain head of more than one atom
         }
-        let choice = h == 1;
-        Ok(Opens { choice, count })
+        Ok(Opens { head, count })
     }
 }

@@ -37,6 +37,7 @@ impl<'a> Rest<'a> {
         ensures range { IfOk result (λ p. (nat_abs p.literal ≤ 1024) × (nat_abs p.weight ≤ 1000000)) }
     {
         let literal = self.read_literal()?;
+        // Kept: the cast, since 1,000,000 fits: `try_from` would want a refusal for a number that cannot be.
         let weight = self.read_natural(0, MOST_BODY_WEIGHT)? as i32;
         Ok(Pair { literal, weight })
     }

@@ -1,7 +1,8 @@
 // What is left of a line, and numbers by their form: decimal digits with no leading zero that make up a whole field.
 ghost use Rattle.std.specs.Prelude.{◌&&◌, ◌≡◌, ◌+◌, ◌-◌, ◌*◌, ◌<◌, ◌≤◌, min, eqb, ltb, length, drop, true, false, not, nat_abs, IfSome, MatchOption};
+ghost use Rattle.std.specs.List.{slice_get};
 ghost use Rattle.asp.specs.Sets.{pick};
-ghost use Rattle.aspif_fields.specs.Fields.{next, is_digit, digits, decimal, nil, over, with_sign, token, field, signed_token};
+ghost use Rattle.aspif_fields.specs.Fields.{next, is_digit, digits, decimal, nil, over, token, field, signed_token};
 ghost use Rattle.aspif_fields.specs.SeenFields.{capped, capped_signed, due};
 
 // Above every range: no value of a token is greater.
@@ -33,15 +34,6 @@ fn push(v: usize, b: u8) -> usize
     (v * 10 + usize::from(b - b'0')).min(BEYOND)
 }
 
-// A literal, a priority or a weight, by its sign.
-fn with_sign(minus: bool, v: usize) -> i32
-    requires { v ≤ 1000000001 }
-    ensures { result ≡ with_sign minus v }
-{
-    let z = v as i32;
-    if minus { -z } else { z }
-}
-
 // Whether n digits, with a leading 0 or none, make up a whole field: at least one, no 0 before others, and the field over.
 fn is_formed(n: usize, leads: bool, is_over: bool) -> bool
     ensures { result ≡ (ltb 0 n && (not (leads && ltb 1 n) && is_over)) }
@@ -50,11 +42,11 @@ fn is_formed(n: usize, leads: bool, is_over: bool) -> bool
 }
 
 impl<'a> Rest<'a> {
-    // The byte that comes next; 0, which no rule allows, at the end.
-    pub fn peek(&self) -> u8
-        ensures { result ≡ next self.now.bytes.now }
+    // The byte that comes next; none at the end.
+    pub fn peek(&self) -> Option<u8>
+        ensures { result ≡ slice_get self.now.bytes.now 0 }
     {
-        self.bytes.first().copied().unwrap_or(0)
+        self.bytes.first().copied()
     }
 
     // The line is over.
@@ -68,10 +60,7 @@ impl<'a> Rest<'a> {
     fn is_over(&self) -> bool
         ensures { result ≡ over self.now.bytes.now }
     {
-        match self.bytes.first() {
-            Some(b) => *b == b' ',
-            None => true,
-        }
+        matches!(self.peek(), Some(b' ') | None)
     }
 
     // Past the next n bytes.
@@ -83,14 +72,17 @@ impl<'a> Rest<'a> {
     }
 
     // The value of the digits that come next, past them.
+    #[tactic(auto, using(crate::proofs::Tokens::scan_value, crate::proofs::Tokens::scan_past, crate::proofs::Tokens::scan_count, crate::proofs::Tokens::at_end, crate::proofs::Tokens::at_other))]
     fn scan(&mut self) -> usize
         ensures value { result ≡ min 1000000001 (decimal 0 (digits self.old.bytes.now)) }
         ensures past { self.new.bytes.now ≡ drop (length (digits self.old.bytes.now)) self.old.bytes.now }
         ensures count { length self.new.bytes.now + length (digits self.old.bytes.now) ≡ length self.old.bytes.now }
     {
         let mut v: usize = 0;
-        while is_digit(self.peek()) {
-            v = push(v, self.peek());
+        while let Some(b) = self.peek()
+            && is_digit(b)
+        {
+            v = push(v, b);
             self.skip(1);
         }
         v
@@ -101,7 +93,7 @@ impl<'a> Rest<'a> {
     pub fn read_token(&mut self) -> Option<usize>
         ensures { due result self.new.bytes.now ≡ capped (token self.old.bytes.now) }
     {
-        let leads = self.peek() == b'0';
+        let leads = self.peek() == Some(b'0');
         let length = self.bytes.len();
         let value = self.scan();
         let n = length - self.bytes.len();
@@ -115,7 +107,7 @@ impl<'a> Rest<'a> {
     pub fn read_space(&mut self) -> Option<()>
         ensures { MatchOption result (eqb (next self.old.bytes.now) 32 ≡ false) (λ u. (eqb (next self.old.bytes.now) 32 ≡ true) × (self.new.bytes.now ≡ drop 1 self.old.bytes.now)) }
     {
-        if self.peek() != b' ' {
+        if self.peek() != Some(b' ') {
             return None;
         }
         self.skip(1);
@@ -135,7 +127,7 @@ impl<'a> Rest<'a> {
         ensures answer { result ≡ eqb (next self.old.bytes.now) 45 }
         ensures past { self.new.bytes.now ≡ pick result (drop 1 self.old.bytes.now) self.old.bytes.now }
     {
-        let minus = self.peek() == b'-';
+        let minus = self.peek() == Some(b'-');
         if minus {
             self.skip(1);
         }
@@ -150,10 +142,10 @@ impl<'a> Rest<'a> {
     {
         self.read_space()?;
         let minus = self.read_minus();
-        let value = self.read_token()?;
+        let value = i32::try_from(self.read_token()?).ok()?;
         if minus && value == 0 {
             return None;
         }
-        Some(with_sign(minus, value))
+        Some(if minus { -value } else { value })
     }
 }

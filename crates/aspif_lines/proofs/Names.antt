@@ -29,9 +29,9 @@ name_in [] h = absurd (omega (arith, within_ends 32 126 0 h))
 name_in (b ∷ l) h = omega arith
 
 module _ {s l : List ℕ} {m i : ℕ} where
-  pub name_more : {b : ℕ} {r : List ℕ} {t : Bool} → NameLeft s l m i → i < m → b ≡ next l → t ≡ within 32 126 b → t ≡ true → r ≡ drop 1 l → NameLeft s r m (i + 1)
-  name_more {b} {r} h q n e t z =
-      let here : within 32 126 (next l) ≡ true = rw (← n, ← e) t in
+  pub name_more : {r : List ℕ} {t : Bool} → NameLeft s l m i → i < m → t ≡ within 32 126 (next l) → t ≡ true → r ≡ drop 1 l → NameLeft s r m (i + 1)
+  name_more {r} h q e t z =
+      let here : within 32 126 (next l) ≡ true = rw (← e) t in
       let byte : get_or s i 0 ≡ next l = let o : i + 0 ≡ i = omega arith in rw h.at (sym (rw o at (get_or-drop i s 0 0))) in
       let o : 0 + i ≡ i = omega arith in
       let past : r ≡ drop (i + 1) s = z ∙ ap (drop 1) h.at ∙ drop-drop 1 i s in
@@ -41,8 +41,8 @@ module _ {s l : List ℕ} {m i : ℕ} where
         inside = rw z (omega (arith, length-drop 1 l, name_in l here, h.inside));
       }
 
-  pub name_stop : {b : ℕ} {t : Bool} → NameLeft s l m i → i < m → b ≡ next l → t ≡ within 32 126 b → t ≡ false → bad 2 ≡ more name_byte m [] s
-  name_stop h q n e t = let other : within 32 126 (next l) ≡ false = rw (← n, ← e) t in more_stop h.read q (rw other)
+  pub name_stop : {t : Bool} → NameLeft s l m i → i < m → t ≡ within 32 126 (next l) → t ≡ false → bad 2 ≡ more name_byte m [] s
+  name_stop h q e t = let other : within 32 126 (next l) ≡ false = rw (← e) t in more_stop h.read q (rw other)
 
   pub name_done : NameLeft s l m i → i ≡ m → got (bytes_at s 0 m) l ≡ more name_byte m [] s
   name_done h q = rw q at (more_done h.read (omega arith))

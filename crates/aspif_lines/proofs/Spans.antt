@@ -56,12 +56,6 @@ kept_refl d n xs = record { same = λ j l. refl; long = refl }
 pub kept_set : {A : Type 0} (d : A) (n : ℕ) (xs ys : List A) (i : ℕ) (z : A) → Kept d n xs ys → n ≤ i → Kept d n xs (set ys i z)
 kept_set d n xs ys i z h l = record { same = λ j m. get_or-set_other ys i j z d (omega arith) ∙ h.same j m; long = length-set ys i z ∙ h.long }
 
-pub kept_less : {A : Type 0} (d : A) (m n : ℕ) (xs ys : List A) → Kept d n xs ys → m ≤ n → Kept d m xs ys
-kept_less d m n xs ys h l = record { same = λ j k. h.same j (omega arith); long = h.long }
-
-pub kept_then : {A : Type 0} (d : A) (m n : ℕ) (xs ys zs : List A) → Kept d m xs ys → Kept d n ys zs → m ≤ n → Kept d m xs zs
-kept_then d m n xs ys zs g h l = record { same = λ j k. h.same j (omega arith) ∙ g.same j k; long = h.long ∙ g.long }
-
 -- what is left of reading k of what f reads, from l₀ on: i of them are the xs, and l follows
 pub record MoreLeft {A : Type 0} (f : List ℕ → Read A) (k i : ℕ) (xs : List A) (l l₀ : List ℕ) : Type 0 where
   pub left : more f (k - i) xs l ≡ more f k [] l₀

@@ -25,6 +25,7 @@ pub struct BodyPart {
 }
 
 // Of a body with these literals and their weights.
+#[tactic(auto, unfolding(asp::specs::Tables::is_weighted, asp::specs::Tables::is_mixed))]
 fn weighed_kind(literals: &[i32]) -> BodyKind
     requires { All (LiteralIn 1024) literals.now }
     ensures weighed { is_weighted result ≡ true }
@@ -38,7 +39,7 @@ fn weighed_kind(literals: &[i32]) -> BodyKind
 }
 
 // `k literals`
-#[tactic(auto, unfolding(crate::specs::Text::normal_body))]
+#[tactic(auto, unfolding(crate::specs::Text::normal_body, asp::specs::Tables::is_weighted))]
 fn read_normal(
     rest: &mut Rest,
     pool: &mut [i32],
@@ -72,6 +73,7 @@ fn read_weighted(
     let bound = rest.read_natural(0, MOST_BOUND)?;
     let count = rest.read_natural(0, MOST_COUNT)?;
     let top = read_weights(rest, count, pool, used, start)?;
+    // Kept: the cast, since 1,000,000,000 fits: `try_from` would want a refusal for a number that cannot be.
     pool[used + count] = bound as i32;
     let kind = weighed_kind(&pool[used..used + count]);
     Ok(BodyPart { kind, count, top })

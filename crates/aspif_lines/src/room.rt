@@ -18,6 +18,7 @@ pub const CONDITION_ROOM: usize = 2048 + 1024;
 
 pub const SYMBOL_ROOM: usize = 512 + 1;
 
+// Kept: arrays of a fixed size, of which `Counts` says how far each is filled, since a library takes nothing from the heap.
 pub type Text = [u8; TEXT_ROOM];
 
 pub type Pool = [i32; POOL_ROOM];

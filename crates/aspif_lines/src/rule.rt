@@ -1,6 +1,5 @@
 // `1 h m atoms` and a body: a rule.
-ghost use Rattle.std.specs.Prelude.{◌≡◌, [], ◌+◌, ◌≤◌, true, length, pos, IfOk};
-ghost use Rattle.asp.specs.Tables.{is_choice};
+ghost use Rattle.std.specs.Prelude.{◌≡◌, [], ◌+◌, ◌≤◌, length, pos, IfOk};
 ghost use Rattle.aspif_fields.specs.SeenFields.{read_as};
 ghost use Rattle.aspif_lines.specs.Text.{rule_line};
 ghost use Rattle.aspif_lines.specs.Seen.{rule_in, RuleGood, Kept};
@@ -8,20 +7,9 @@ ghost use Rattle.aspif_lines.specs.Seen.{rule_in, RuleGood, Kept};
 use super::body::read_body;
 use super::members::{read_end, read_members};
 use super::room::Pool;
-use asp::rules::{HeadKind, Row};
+use asp::rules::Row;
 use aspif_fields::refusal::Refusal;
 use aspif_fields::token::Rest;
-
-// What a rule's head is: a choice, or no more than one atom.
-fn head_kind(choice: bool) -> HeadKind
-    ensures { is_choice result ≡ choice }
-{
-    if choice {
-        HeadKind::Choice
-    } else {
-        HeadKind::Plain
-    }
-}
 
 // A rule by its row: its head atoms and then its body in the pool. The highest atom so far.
 #[derive(Clone, Copy, PartialEq, Eq, Debug)]
@@ -47,8 +35,9 @@ pub fn read_rule(
     let highest = read_members(rest, |rest| rest.read_atom(), heads, pool, used, start)?;
     let body = read_body(rest, pool, used + heads, highest)?;
     read_end(rest)?;
+    // Kept: the casts, since a place of the pool is below 65,536 and a count at most 1,024: `try_from` would want a refusal for a number that cannot be.
     let row = Row {
-        head: head_kind(opening.choice),
+        head: opening.head,
         body: body.kind,
         first: used as u16,
         heads: heads as u16,

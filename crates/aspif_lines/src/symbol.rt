@@ -2,7 +2,7 @@
 ghost use Rattle.std.specs.Prelude.{◌≡◌, [], ◌+◌, ◌<◌, ◌≤◌, max, length, pos, nat_abs, IfOk};
 ghost use Rattle.asp.specs.Program.{highest};
 ghost use Rattle.asp.specs.Tables.{literals_at};
-ghost use Rattle.aspif_fields.specs.Fields.{within, field};
+ghost use Rattle.aspif_fields.specs.Fields.{within, next, field};
 ghost use Rattle.aspif_fields.specs.SeenFields.{read_as, read_into};
 ghost use Rattle.aspif_lines.specs.Text.{more, name_byte, symbol_line};
 ghost use Rattle.aspif_lines.specs.Seen.{bytes_at, symbol_in, SymbolSmall, Kept};
@@ -15,19 +15,28 @@ use aspif_fields::token::Rest;
 
 const MOST_NAME: usize = 64; // document 01: "a symbol's m 1 to 64"
 
+// A byte of a name.
 fn is_name(b: u8) -> bool
     ensures { result ≡ within 32 126 b }
 {
     32 <= b && b <= 126
 }
 
+// Whether such a byte comes next.
+fn goes_on(rest: &Rest) -> bool
+    ensures { result ≡ within 32 126 (next rest.now.bytes.now) }
+{
+    rest.peek().is_some_and(is_name)
+}
+
 // The m bytes of a name. A byte outside 32 to 126, or none, is refusal 2.
+#[tactic(auto, using(crate::proofs::Names::name_start, crate::proofs::Names::name_stop, crate::proofs::Names::name_done))]
 fn read_bytes(rest: &mut Rest, m: usize) -> Result<(), Refusal>
     ensures answer { read_into result (bytes_at rest.old.bytes.now 0 m) rest.new.bytes.now ≡ more name_byte m [] rest.old.bytes.now }
     ensures inside { IfOk result (λ u. m + length rest.new.bytes.now ≡ length rest.old.bytes.now) }
 {
-    for i in 0..m {
-        if !is_name(rest.peek()) {
+    for _ in 0..m {
+        if !goes_on(rest) {
             return Err(Refusal::Malformed);
         }
         rest.skip(1);

@@ -15,7 +15,7 @@ use Rattle.asp.specs.Tables.{literals_at, symbol_row, symbol_at, symbols_of, pro
 use Rattle.aspif_fields.specs.Fields.{Read, got, bad, bind, nil, number}
 use Rattle.aspif_lines.specs.Text.{rule_line, minimise_line, symbol_line, Minimise, rule, minimise, symbol, comment, final, of_kind, statement, line, led, stepped_line, stop}
 use Rattle.aspif_lines.specs.Seen.{entry_atom, bytes_at, Kept}
-use Rattle.aspif_tables.specs.Lists.{SymbolsSound, RuleAdded, MinimiseAdded, SymbolAdded, final_counts, Lists, lists, Sized, tables, reading_of, SoundLists, turn_of}
+use Rattle.aspif_tables.specs.Lists.{Appended, SymbolsSound, RuleAdded, MinimiseAdded, SymbolAdded, final_counts, Lists, lists, Sized, tables, reading_of, SoundLists, turn_of}
 use Rattle.aspif_tables.specs.declared.table.Counts.{Counts}
 use Rattle.aspif_tables.specs.declared.line.LineTurn.{LineTurn}
 use Rattle.aspif_tables.specs.declared.line.LineTurn.TheVariants.{Last, Goes}
@@ -45,8 +45,10 @@ bytes_kept t t' n k = span_same (λ (j : ℕ). get_or t' j 0) (λ (j : ℕ). get
 
 -- ---- the line s was put after the text, and its kind read
 
-module _ (s : List ℕ) (t : Lists) (n : Counts) (text' : List ℕ) (end : ℕ) (sound : SoundLists t n) (where-end : end ≡ n.text + length s + 1)
-    (appended : bytes_at text' 0 end ≡ bytes_at t.text 0 n.text ++ line s) (kept : Kept 0 n.text t.text text') where
+module _ {s : List ℕ} {t : Lists} {n : Counts} {text' : List ℕ} {end : ℕ} (sound : SoundLists t n) (put-in : Appended t.text text' n.text s end) where
+  kept : Kept 0 n.text t.text text'
+  kept = put-in.kept
+
   -- the tables with the new text
   abbrev put : Lists
   put = lists text' t.pool t.rules t.entries t.levels t.conditions t.symbols
@@ -67,7 +69,7 @@ module _ (s : List ℕ) (t : Lists) (n : Counts) (text' : List ℕ) (end : ℕ) 
   unfolding stepped_line statement
   refused_line c e = rw e
 
-  module _ (kind : ℕ) (r : List ℕ) (num : number 0 10 s ≡ got kind r) where
+  module _ {kind : ℕ} {r : List ℕ} (num : number 0 10 s ≡ got kind r) where
     -- what a kind's line leads to
     kind_led : {x : Read _} → of_kind kind r ≡ x → stepped_line s (reading_of t n) ≡ led s (reading_of t n) x
     unfolding stepped_line statement
@@ -80,18 +82,15 @@ module _ (s : List ℕ) (t : Lists) (n : Counts) (text' : List ℕ) (end : ℕ) 
     leads_at {u} {v} m a e h = subst (λ (w : Lists). Leads w m a) (sym e) h
 
     -- ---- rules
-    module _ (pool' : List ℤ) (rules' : List Row) (one : kind ≡ 1) where
-      abbrev ruled : Lists
-      ruled = lists text' pool' rules' t.entries t.levels t.conditions t.symbols
-
+    module _ (one : kind ≡ 1) where
       rule_kind : (x : Read Rule) → rule_line r ≡ x → of_kind kind r ≡ bind x (λ r l. got (rule r) l)
       unfolding of_kind
       rule_kind x e = rw (one, e)
 
-      pub rule_goes : (m : Counts) → RuleAdded t.pool t.rules pool' rules' n end r m → Leads ruled m Goes
-      rule_goes m a =
+      pub rule_goes : {pool' : List ℤ} {rules' : List Row} (m : Counts) → RuleAdded t.pool t.rules pool' rules' n end r m → Leads (lists text' pool' rules' t.entries t.levels t.conditions t.symbols) m Goes
+      rule_goes {pool'} {rules'} m a =
           rw a.counts (
-            rw (kind_led (rule_kind (got a.read []) a.line), a.grown, same, appended),
+            rw (kind_led (rule_kind (got a.read []) a.line), a.grown, same, put-in.whole),
             (
               record {
                 sized = record { text = sized.text; pool = a.long_pool ∙ sized.pool; rules = a.long_rules ∙ sized.rules; entries = sized.entries; levels = sized.levels; conditions = sized.conditions; symbols = sized.symbols };
@@ -108,18 +107,15 @@ module _ (s : List ℕ) (t : Lists) (n : Counts) (text' : List ℕ) (end : ℕ) 
       rule_stops c e = sym (kind_led (rule_kind (bad c) e))
 
     -- ---- minimise lines
-    module _ (entries' : List Entry) (levels' : List ℤ) (two : kind ≡ 2) where
-      abbrev minimised : Lists
-      minimised = lists text' t.pool t.rules entries' levels' t.conditions t.symbols
-
+    module _ (two : kind ≡ 2) where
       minimise_kind : (x : Read Minimise) → minimise_line r ≡ x → of_kind kind r ≡ bind x (λ m l. got (minimise m.priority m.entries) l)
       unfolding of_kind
       minimise_kind x e = rw (two, e)
 
-      pub minimise_goes : (m : Counts) → MinimiseAdded t.entries t.levels entries' levels' n end r m → Leads minimised m Goes
-      minimise_goes m a =
+      pub minimise_goes : {entries' : List Entry} {levels' : List ℤ} (m : Counts) → MinimiseAdded t.entries t.levels entries' levels' n end r m → Leads (lists text' t.pool t.rules entries' levels' t.conditions t.symbols) m Goes
+      minimise_goes {entries'} {levels'} m a =
           rw a.counts (
-            rw (kind_led (minimise_kind (got a.read []) a.line), a.grown, a.levelled, same, appended),
+            rw (kind_led (minimise_kind (got a.read []) a.line), a.grown, a.levelled, same, put-in.whole),
             (
               record {
                 sized = record { text = sized.text; pool = sized.pool; rules = sized.rules; entries = a.long_entries ∙ sized.entries; levels = a.long_levels ∙ sized.levels; conditions = sized.conditions; symbols = sized.symbols };
@@ -136,19 +132,16 @@ module _ (s : List ℕ) (t : Lists) (n : Counts) (text' : List ℕ) (end : ℕ) 
       minimise_stops c e = sym (kind_led (minimise_kind (bad c) e))
 
     -- ---- symbols
-    module _ (conditions' : List ℤ) (symbols' : List SymbolRow) (four : kind ≡ 4) where
-      abbrev symbolled : Lists
-      symbolled = lists text' t.pool t.rules t.entries t.levels conditions' symbols'
-
+    module _ (four : kind ≡ 4) where
       symbol_kind : (x : Read Symbol) → symbol_line r ≡ x → of_kind kind r ≡ bind x (λ s l. got (symbol s) l)
       unfolding of_kind
       symbol_kind x e = rw (four, e)
 
-      pub symbol_goes : (m : Counts) → SymbolAdded text' t.conditions t.symbols conditions' symbols' n end r m → Leads symbolled m Goes
-      symbol_goes m a =
+      pub symbol_goes : {conditions' : List ℤ} {symbols' : List SymbolRow} (m : Counts) → SymbolAdded text' t.conditions t.symbols conditions' symbols' n end r m → Leads (lists text' t.pool t.rules t.entries t.levels conditions' symbols') m Goes
+      symbol_goes {conditions'} {symbols'} m a =
           let grown = rw same at a.grown in
           rw a.counts (
-            rw (kind_led (symbol_kind (got a.read []) a.line), grown, appended),
+            rw (kind_led (symbol_kind (got a.read []) a.line), grown, put-in.whole),
             (
               record {
                 sized = record { text = sized.text; pool = sized.pool; rules = sized.rules; entries = sized.entries; levels = sized.levels; conditions = a.long_conditions ∙ sized.conditions; symbols = a.long_symbols ∙ sized.symbols };
@@ -173,7 +166,7 @@ module _ (s : List ℕ) (t : Lists) (n : Counts) (text' : List ℕ) (end : ℕ) 
 
     pub final_leads : kind ≡ 0 → nil r ≡ true → Leads put (final_counts n end) Last
     unfolding of_kind
-    final_leads z e = (rw (kind_led {x = got final []} (rw (z, e)), same, appended), (put_sound, omega arith))
+    final_leads z e = (rw (kind_led {x = got final []} (rw (z, e)), same, put-in.whole), (put_sound, omega arith))
 
     pub final_stops : kind ≡ 0 → nil r ≡ false → stop 2 ≡ stepped_line s (reading_of t n)
     unfolding of_kind

@@ -13,8 +13,8 @@ use Rattle.asp.specs.Tables.{literals_at, is_choice, is_weighted, is_mixed, row_
 use Rattle.aspif_fields.specs.Fields.{got, bad}
 use Rattle.aspif_fields.specs.Refusals.{refusal_number}
 use Rattle.aspif_fields.specs.declared.refusal.Refusal.{Refusal}
-use Rattle.aspif_lines.specs.Text.{rule_line, Minimise, minimise_line, symbol_line, pieces, Reading, insert, sum, rule_size, condition_size, name_size, Step, stop, last, goes}
-use Rattle.aspif_lines.specs.Seen.{entry_atom, bytes_at}
+use Rattle.aspif_lines.specs.Text.{rule_line, Minimise, minimise_line, symbol_line, line, pieces, Reading, insert, sum, rule_size, condition_size, name_size, Step, stop, last, goes}
+use Rattle.aspif_lines.specs.Seen.{entry_atom, bytes_at, Kept}
 use Rattle.aspif_tables.specs.declared.table.Counts.{Counts}
 use Rattle.aspif_tables.specs.declared.table.Stored.{Stored}
 use Rattle.aspif_tables.specs.declared.line.LineTurn.{LineTurn}
@@ -202,6 +202,13 @@ Sound p = SoundLists (lists_of p) p.counts
 abbrev pub followed : Option (Bor (List ℕ)) → List (List ℕ)
 followed (Some s) = pieces s.now
 followed None = []
+
+-- a text whose first `used` bytes are followed by the line s and its byte 10, up to `end`
+pub record Appended (text text' : List ℕ) (used : ℕ) (s : List ℕ) (end : ℕ) : Type 0 where
+  pub ends : end ≡ used + length s + 1
+  pub whole : bytes_at text' 0 end ≡ bytes_at text 0 used ++ line s
+  pub kept : Kept 0 used text text'
+  pub part : (a m : ℕ) → a + m ≤ length s → bytes_at text' (used + a) m ≡ bytes_at s a m
 
 -- the lengths of a text, of its first line, and of what follows its byte 10
 abbrev pub SplitLong : ℕ → ℕ → Option (Bor (List ℕ)) → Type 0

@@ -13,6 +13,7 @@ use aspif_lines::minimise::{MinimiseLine, read_minimise};
 use aspif_lines::rule::{RuleLine, read_rule};
 use aspif_lines::symbol::{SymbolLine, read_symbol};
 
+// Kept: `Within` stands in contracts and is no part of `Counts`, since a line may pass a limit, which is judged after it.
 impl Stored {
     // A rule. The text ends at `end` with its line.
     pub fn add_rule(&mut self, rest: &mut Rest, end: usize) -> Result<(), Refusal>
@@ -81,6 +82,7 @@ impl Stored {
             top,
         } = line;
         let first = n.text + (before + name);
+        // Kept: the casts, since a place of the text or of a condition is below 65,536: `try_from` would want a refusal for a number that cannot be.
         self.symbols[n.symbols] = SymbolRow {
             name: first as u16,
             length: length as u16,

@@ -1,8 +1,7 @@
 // One line into the tables.
-ghost use Rattle.std.specs.Prelude.{◌≡◌, ◌∷◌, ◌++◌, ℕ, ◌+◌, ◌<◌, ◌≤◌, ◌==◌, length, position};
-ghost use Rattle.aspif_lines.specs.Text.{pieces, line, stepped_line};
-ghost use Rattle.aspif_lines.specs.Seen.{bytes_at, Kept};
-ghost use Rattle.aspif_tables.specs.Lists.{followed, SplitLong, Sound, Within, reading_in, seen_turn, TurnAfter};
+ghost use Rattle.std.specs.Prelude.{◌≡◌, ◌∷◌, ◌+◌, ◌≤◌, ◌==◌, length, position};
+ghost use Rattle.aspif_lines.specs.Text.{pieces, stepped_line};
+ghost use Rattle.aspif_tables.specs.Lists.{followed, Appended, SplitLong, Sound, Within, reading_in, seen_turn, TurnAfter};
 
 use super::table::Stored;
 use aspif_fields::refusal::Refusal;
@@ -19,6 +18,7 @@ fn line_end(s: &[u8]) -> Option<usize>
 }
 
 // The line that comes next, and what follows its byte 10; nothing follows without it.
+#[tactic(auto, using(crate::proofs::Pieces::split_none))]
 pub fn split_line(s: &[u8]) -> (&[u8], Option<&[u8]>)
     ensures split { pieces s.now ≡ result.0.now ∷ followed result.1 }
     ensures long { SplitLong (length s.now) (length result.0.now) result.1 }
@@ -32,7 +32,7 @@ pub fn split_line(s: &[u8]) -> (&[u8], Option<&[u8]>)
 // The line and its byte 10, after the first `used` bytes of the text.
 pub fn append_line(text: &mut [u8], used: usize, s: &[u8]) -> usize
     requires { used + length s.now + 1 ≤ length text.old }
-    ensures { (result ≡ used + length s.now + 1) × (bytes_at text.new 0 result ≡ bytes_at text.old 0 used ++ line s.now) × Kept 0 used text.old text.new × ((a m : ℕ) → a + m ≤ length s.now → bytes_at text.new (used + a) m ≡ bytes_at s.now a m) }
+    ensures { Appended text.old text.new used s.now result }
 {
     let end = used + s.len();
     text[used..end].copy_from_slice(s);
@@ -47,6 +47,7 @@ pub enum LineTurn {
     Goes,
 }
 
+// Kept: `Within` stands in the contract, as in add.rt: the line may pass a limit, which is judged after it.
 impl Stored {
     // A line, without its byte 10. It is stored first, since a symbol's name is a part of the stored text; a comment leaves the text at its old length.
     pub fn take_line(&mut self, s: &[u8]) -> Result<LineTurn, Refusal>

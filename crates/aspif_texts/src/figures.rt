@@ -1,4 +1,6 @@
 // Figures of a stored program: its counts, and a sum over each of its tables. A place outside a table is passed over.
+ghost use Rattle.std.specs.Prelude.{◌≡◌};
+
 use asp::entries::Entry;
 use asp::rules::{BodyKind, Row};
 use asp::symbols::SymbolRow;
@@ -120,7 +122,11 @@ fn fold_entry(h: u32, e: Entry) -> u32 {
     fold_weight(b, e.weight)
 }
 
-pub fn figures_of(p: &Stored, written: &[u8]) -> Figures {
+pub fn figures_of(p: &Stored, written: &[u8]) -> Figures
+    ensures of_rules { (result.atoms ≡ p.now.counts.atoms) × (result.rules ≡ p.now.counts.rules) }
+    ensures of_wishes { (result.entries ≡ p.now.counts.entries) × (result.levels ≡ p.now.counts.levels) }
+    ensures of_text { (result.symbols ≡ p.now.counts.symbols) × (result.text ≡ p.now.counts.text) }
+{
     let n = p.counts;
     let rules = p.rules.iter().take(n.rules);
     let entries = p.entries.iter().take(n.entries);

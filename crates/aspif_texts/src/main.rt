@@ -32,6 +32,7 @@ fn length_of(digits: &[u8]) -> usize {
 
 // One text, until there is none.
 fn one_text(rt: &impl Print, input: &mut impl Read) -> io::Result<bool> {
+    // Kept: buffers of a fixed size, here and below, since no program allocates.
     let mut head = [0u8; 8];
     if inputs::fill(input, &mut head)? < 8 {
         return Ok(false);

@@ -12,8 +12,8 @@ returns-clause-answer c =
     let heads = c.in_ok-highest.ensures in
     let body = c.in_ok-body in
     let same = literals_at_kept _ _ _ c.args.used o.opening.count body.ensures.kept (omega arith) in
-    let row = rule_left body.ensures.kept c.args.used o.opening.count body.body.count c.head_kind.result body.body.kind in
-    rw (row, c.head_kind.ensures, same, ← o.ensures.answer, ← heads.answer, ← body.ensures.answer, c.in_ok-read_end.ensures)
+    let row = rule_left body.ensures.kept c.args.used o.opening.count body.body.count o.opening.head body.body.kind in
+    rw (row, same, ← o.ensures.answer, ← heads.answer, ← body.ensures.answer, c.in_ok-read_end.ensures)
 
 pub returns-clause-good : goal.returns-clause-good
 returns-clause-good c =
@@ -21,5 +21,4 @@ returns-clause-good c =
     let heads = c.in_ok-highest.ensures in
     let body = c.in_ok-body in
     let same = literals_at_kept _ _ _ c.args.used o.opening.count body.ensures.kept (omega arith) in
-    let one = rw (← c.head_kind.ensures) at o.ensures.range.1 in
-    rule_good _ _ _ _ body.body o.ensures.range.0 one (rw same (heads_positive _ _ _ _ heads.answer)) (rw same heads.top) body.ensures.good
+    rule_good _ _ _ _ body.body o.ensures.range.0 o.ensures.range.1 (rw same (heads_positive _ _ _ _ heads.answer)) (rw same heads.top) body.ensures.good

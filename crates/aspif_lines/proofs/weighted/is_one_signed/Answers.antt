@@ -1,18 +1,10 @@
-use Rattle.std.proofs.Common.{refl, arith}
+use Rattle.std.proofs.Common.{arith}
 use mir.Syntax.{w32}
 use mir.Val.{SFits}
 use mir.Facts.{to_z-of_z}
 use Rattle.aspif_fields.proofs.Signs.{back}
 use Rattle.aspif_lines.proofs.Pairs.{signs_small, signs_mixed, signs_next, signs_done}
 use Rattle.aspif_lines.proofs.weighted.is_one_signed.Goals as goal
-
-pub loop-l-init : goal.loop-l-init
-loop-l-init c = record { small = c.requires; left = refl }
-
-pub complement-requires : goal.complement-requires
-complement-requires c =
-    let small = signs_small c.loop-l.invariant c.in-Some.ensures.cases.0 in
-    rw (back c.in-Some.l.now (omega (arith, small))) small
 
 pub returns-then-occurs : goal.returns-then-occurs
 returns-then-occurs c =

@@ -12,8 +12,10 @@ returns c =
     let kept = put_kept t s used (used + length s - used) n (omega arith) in
     let copied = put_copied t s used (used + length s - used) n (omega arith) in
     rw c.copy_from_slice.ensures.after (
-      refl,
-      appended t _ s used kept copied (omega (arith, kept.long)),
-      kept_set 0 used t _ (used + length s) 10 kept (omega arith),
-      appended_part t _ s used kept copied (omega (arith, kept.long)),
+    record {
+      ends = refl;
+      whole = appended t _ s used kept copied (omega (arith, kept.long));
+      kept = kept_set 0 used t _ (used + length s) 10 kept (omega arith);
+      part = appended_part t _ s used kept copied (omega (arith, kept.long));
+    }
     )
