@@ -48,12 +48,7 @@ fn soft_or_wanted(j: Option<usize>) -> Judgement
 
 impl Query<'_> {
     // The judgement of a full trail: by the rules and the settled costs, and then by the soft literals, those that are blamed already first.
-    pub fn judge_full(
-        &self,
-        blamed: &[u16],
-        value: &[u8; 1025],
-        counters: &Counters,
-    ) -> Judgement
+    pub fn judge_full(&self, blamed: &[u16], value: &[u8; 1025], counters: &Counters) -> Judgement
         requires inside { All (λ m. m < softs (query_lent self.now)) blamed.now }
         requires leaf { LeafFor self.now.ground value.now counters.now }
         ensures { result ≡ judge_full (source_lent self.now.ground) (query_lent self.now) blamed.now value.now }
