@@ -5,6 +5,7 @@ ghost use Rattle.cores.specs.Tables.{no_soft};
 
 use crate::soft::Soft;
 
+// Kept: functions and no indexing, so that document 01's slice of records is read and replaced in one place each.
 // The i-th record.
 pub fn soft_at(table: &[Soft], i: usize) -> Soft
     requires { i < length table.now }

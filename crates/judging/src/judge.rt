@@ -40,7 +40,7 @@ impl<'a> Cores<'a> {
     }
 
     // Whether the soft literal at place p is violated.
-    // Kept: the counts of a set stay a parameter beside it. A struct with the `&mut` in it would have to promise at each call that it holds the same tables and the same set.
+    // Kept: the counts of a set stay a parameter beside it: in a struct with them, the clause `Known` of four contracts would only become one that says that tables and set are the same.
     #[cycle(count_violated)]
     pub fn violated(&self, p: usize, model: AtomSet<'_>, counts: &mut [u16]) -> bool
         requires p_in_bounds { p < length self.now.softs.now }

@@ -78,5 +78,6 @@ pub fn blame_place(places: &[u16], p: usize, b: &mut Blame)
         return;
     }
     flag(places, p, &mut b.flags);
+    // Kept: a cast, as Rattle has no `From` here; the bound stands in the contract, and `try_from` would want an answer for what cannot be.
     add(b, p as u16);
 }

@@ -76,6 +76,7 @@ impl Limited<'_> {
     fn costs(&self, value: &[u8; 1025]) -> [i64; 8]
         ensures { result ≡ costs_of (levels_lent self.now.objective) value.now }
     {
+        // Kept: an array of document 01's size, since nothing here takes memory from the heap.
         let mut figures = [0i64; 8];
         self.objective
             .level_costs(AtomSet { bytes: value }, &mut figures);

@@ -10,6 +10,7 @@ use counting::index::Index;
 use indexing::build::{By, Listing};
 
 // The rules by condition and by head atom; by atom, 1 for one to be tried in first.
+// Kept: an array of document 01's size, since nothing here takes memory from the heap.
 #[derive(Clone, Copy)]
 pub struct Preparation {
     pub conditions: Index,

@@ -69,6 +69,7 @@ impl Ground<'_> {
         ensures { turns (turned result.turn trail.new blame.new) result.made ≡ turns_of (source_lent self.now) (work_query w.now) budget trail.old blame.old }
     {
         let cores = Cores::of(&w.tables);
+        // Kept: arrays of document 01's sizes, since nothing here takes memory from the heap.
         let mut assumed = [0; 4096];
         let mut spots = [0; 4096];
         let mut wished = [0; 4096];

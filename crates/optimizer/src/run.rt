@@ -52,6 +52,7 @@ impl Limited<'_> {
     pub fn fresh(&self) -> Search
         ensures { result ≡ fresh_for (levels_lent self.now.objective) }
     {
+        // Kept: an array of document 01's size, since nothing here takes memory from the heap.
         let mut starts = [0i64; 8];
         self.objective.level_starts(&mut starts);
         fresh_over(starts)

@@ -190,6 +190,7 @@ fn first_with(
     ensures { Spotted (rules_lent g.now.rules) value.now key.now want result.found result.rule }
 {
     let mut r = start;
+    // Kept: a loop by hand, since it goes on by one rule or by sixteen.
     while r < g.rules.rows.len() {
         if may_skip(key, r, want) {
             r += 16;
