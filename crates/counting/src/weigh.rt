@@ -110,7 +110,7 @@ impl WeightedRule<'_> {
             HeadKind::Plain => {
                 let first = usize::from(self.row.first);
                 let mid = first + usize::from(self.row.heads);
-                scan::meet_at(self.pool, value, Rest::All, mid, first)
+                scan::left_at(self.pool, value, mid, first)
             }
         }
     }

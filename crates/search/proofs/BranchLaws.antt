@@ -2,7 +2,7 @@
 use mathlib.Core.Path.{◌≡◌, refl, sym, ◌∙◌}
 use mathlib.Core.Bool.{Bool, true, false}
 use mathlib.Core.List.{List}
-use Prim.Native.Nat.{ℕ, zero, suc, ◌+◌, ◌-◌, ◌≤◌, ◌<◌}
+use Prim.Native.Nat.{ℕ, zero, suc, ◌+◌, ◌-◌, ◌≤◌, ◌<◌, max}
 use native.Mathlib.Omega.{arith}
 use lib.Dec.{eqb}
 use lib.IntN.{pos, neg_ℤ}
@@ -24,12 +24,6 @@ module _ (v : List ℕ) (a n : ℕ) where
   unfolding lowest_from
   low_none h = let e : n - a ≡ 0 = omega arith in rw e
 
-pub first_one : (a : ℕ) → a ≡ 0 → 1 ≡ pick (eqb a 0) 1 a
-first_one a e = rw (eq-eqb a 0 e)
-
-pub first_same : (a : ℕ) → (a ≡ 0 → ⊥) → a ≡ pick (eqb a 0) 1 a
-first_same a e = rw (ne_eqb a 0 e)
-
 -- the search may go on from an atom below which all are decided
 low_from : (v : List ℕ) (n a k : ℕ) → a + k ≤ n → DecidedBelow v (a + k) → 1 ≤ a → lowest_from v (a + k) (n - (a + k)) ≡ lowest_from v a (n - a)
 low_from v n a zero h d l = let e : a + 0 ≡ a = omega arith in rw e
@@ -42,12 +36,8 @@ pub record Low (v : List ℕ) (n a : ℕ) : Type 0 where
   pub low : 1 ≤ a
   pub below : DecidedBelow v a
 
-pub low_start : (v : List ℕ) (n start : ℕ) → DecidedBelow v start → {a : ℕ} → a ≡ pick (eqb start 0) 1 start → Low v n a
-low_start v n start d e = rw e (go (eqb start 0) refl)
-  where
-    go : (b : Bool) → eqb start 0 ≡ b → Low v n (pick b 1 start)
-    go true q = record { low = omega arith; below = record { decided = λ j l h. absurd (omega arith) } }
-    go false q = let z = eqb-false start 0 q in record { low = omega arith; below = d }
+pub low_start : (v : List ℕ) (n start : ℕ) → DecidedBelow v start → {a : ℕ} → a ≡ max start 1 → Low v n a
+low_start v n start d e = record { low = omega (arith, e); below = record { decided = λ j l h. d.decided j l (omega (arith, e)) } }
 
 pub low_on : {v : List ℕ} {n a : ℕ} → Low v n a → a < n → (get_or v a 0 ≡ 0 → ⊥) → Low v n (a + 1)
 low_on {v} {n} {a} i h q = record { low = omega arith; below = record { decided = λ j l k. go j l k (eqb j a) refl } }

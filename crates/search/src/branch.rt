@@ -1,6 +1,6 @@
 // Where to branch on an open trail. Document 01 leaves it free; docs/DECISIONS.md says why this way.
-ghost use Rattle.std.specs.Prelude.{◌≡◌, ℕ, ◌≤◌, eqb};
-ghost use Rattle.asp.specs.Sets.{set_of, pick};
+ghost use Rattle.std.specs.Prelude.{◌≡◌, ◌≤◌};
+ghost use Rattle.asp.specs.Sets.{set_of};
 ghost use Rattle.search.specs.Branch.{Noted, DecidedBelow, LowestIs, lowest_of, free_literal};
 ghost use Rattle.search.specs.Lent.{free_branch_lent, branch_lent};
 
@@ -8,19 +8,13 @@ use crate::scan::Found;
 use crate::soft::Wishes;
 use asp::literal;
 
-fn at_least_one(a: usize) -> usize
-    ensures { result ≡ pick (eqb a 0) 1 a }
-{
-    if a == 0 { 1 } else { a }
-}
-
 // The lowest undecided atom, where all below `start` are decided; n where there is none below it.
 pub fn lowest(value: &[u8; 1025], n: usize, start: usize) -> usize
     requires n_bound { n ≤ 1024 }
     requires decided_below { DecidedBelow value.now start }
     ensures { LowestIs value.now n result }
 {
-    for a in at_least_one(start)..n {
+    for a in start.max(1)..n {
         if value[a] == 0 {
             return a;
         }

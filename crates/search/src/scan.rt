@@ -1,6 +1,6 @@
-// What a scan over rules and their literals meets: the conditions of a rule, what is left of them, what it finds. The scan itself is in `counting`.
+// What a scan over rules and their literals meets: a condition of a rule, what is left of it, what is found. The scan itself is in `stepping`.
 ghost use Rattle.std.specs.Prelude.{◌≡◌, ℕ, ◌<◌, ◌≤◌, length, get_or, pos, nat_abs};
-ghost use Rattle.search.specs.Scan.{cond_at, meet_value, meet_of, free_of, is_all, note_of};
+ghost use Rattle.search.specs.Scan.{cond_at, meet_of, is_all, note_of};
 
 use crate::value;
 use asp::literal;
@@ -31,45 +31,28 @@ pub fn condition(pool: &[i32], mid: usize, k: usize) -> i32
     if k < mid { literal::complement(l) } else { l }
 }
 
-// A condition that is undecided.
-fn free(rest: Rest, l: i32) -> Rest
-    ensures { result ≡ free_of rest l }
-{
-    match rest {
-        Rest::All => Rest::One(l),
-        Rest::One(f) if f == l => rest,
-        Rest::One(_) | Rest::Off => Rest::Off,
-    }
-}
-
-// One more condition, whose atom has the value x.
-fn meet_value(rest: Rest, l: i32, x: u8) -> Rest
-    ensures { result ≡ meet_value rest l x }
-{
-    if x == 0 {
-        return free(rest, l);
-    }
-    if value::side(l) == x {
-        return rest;
-    }
-    Rest::Off
-}
-
-// One more condition.
-fn meet(value: &[u8; 1025], rest: Rest, l: i32) -> Rest
+// What is left of one condition.
+fn left(value: &[u8; 1025], l: i32) -> Rest
     requires { nat_abs l ≤ 1024 }
-    ensures { result ≡ meet_of value.now rest l }
+    ensures { result ≡ meet_of value.now Rest.All l }
 {
-    meet_value(rest, l, value[literal::atom(l)])
+    let x = value[literal::atom(l)];
+    if x == 0 {
+        Rest::One(l)
+    } else if value::side(l) == x {
+        Rest::All
+    } else {
+        Rest::Off
+    }
 }
 
-// The condition at place k is met.
-pub fn meet_at<'a>(pool: &'a [i32], value: &'a [u8; 1025], rest: Rest, mid: usize, k: usize) -> Rest
+// What is left of the condition at place k.
+pub fn left_at(pool: &[i32], value: &[u8; 1025], mid: usize, k: usize) -> Rest
     requires k_in_bounds { k < length pool.now }
     requires pos_bound { nat_abs (get_or pool.now k (pos 0)) ≤ 1024 }
-    ensures { result ≡ meet_of value.now rest (cond_at pool.now mid k) }
+    ensures { result ≡ meet_of value.now Rest.All (cond_at pool.now mid k) }
 {
-    meet(value, rest, condition(pool, mid, k))
+    left(value, condition(pool, mid, k))
 }
 
 impl Rest {
@@ -78,14 +61,14 @@ impl Rest {
     {
         matches!(self, Rest::All)
     }
-}
 
-// The first literal that is left alone is noted.
-pub fn note(found: Found, rest: Rest) -> Found
-    ensures { result ≡ note_of found rest }
-{
-    match (found, rest) {
-        (Found::Clear, Rest::One(l)) => Found::Breaker(l),
-        _ => found,
+    // What is found of a condition of which this is left: a literal that is left alone is noted.
+    pub fn noted(self) -> Found
+        ensures { result ≡ note_of Found.Clear self }
+    {
+        match self {
+            Rest::One(l) => Found::Breaker(l),
+            Rest::All | Rest::Off => Found::Clear,
+        }
     }
 }

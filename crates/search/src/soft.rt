@@ -1,11 +1,11 @@
 // The assumed soft literals of entries (document 01's wishes): each is the literal that it wishes for, and is violated where that does not hold.
 ghost use Rattle.std.specs.Prelude.{◌≡◌, ◌≤◌, length};
 ghost use Rattle.asp.specs.Sets.{set_of};
-ghost use Rattle.search.specs.Soft.{assumed_entries, FormedSoft, first_of};
+ghost use Rattle.search.specs.Soft.{assumed_entries, ReadableSoft, first_of};
 
 use crate::value::truth;
 
-// The literal that each one wishes for, over the atoms 1 to `atoms`; 1 where it is blamed already; and, by atom, 1 for one that a free branch tries in first.
+// Of a program with the atoms 1 to `atoms`: the literal that each one wishes for; 1 where it is blamed already; and, by atom, 1 for one that a free branch tries in first.
 #[derive(Clone, Copy)]
 pub struct Wishes<'a> {
     pub atoms: usize,
@@ -13,7 +13,7 @@ pub struct Wishes<'a> {
     pub blamed: &'a [u8],
     pub tried: &'a [u8; 1025],
     pub ghost few: { atoms ≤ 1024 },
-    pub ghost formed: { FormedSoft atoms (assumed_entries literals.now blamed.now (length literals.now) (set_of tried.now)) },
+    pub ghost readable: { ReadableSoft (assumed_entries literals.now blamed.now (length literals.now) (set_of tried.now)) },
 }
 
 fn first_of(found: Option<usize>, i: usize) -> Option<usize>

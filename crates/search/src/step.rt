@@ -1,4 +1,4 @@
-// The test of a trail that breaks no rule. The whole test and the step are in `counting`.
+// The test of a trail that breaks no rule. The whole test and the step are in `stepping`.
 ghost use Rattle.std.specs.Prelude.{◌≡◌, ◌≤◌};
 ghost use Rattle.search.specs.Branch.{Noted, lowest_of};
 ghost use Rattle.search.specs.Lent.{assumed_lent};

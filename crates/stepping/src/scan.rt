@@ -2,7 +2,7 @@
 ghost use Rattle.std.specs.Prelude.{◌≡◌, ℕ, ◌+◌, ◌*◌, ◌<◌, ◌≤◌, true, false, eqb, pos, nat_abs, length, get_or};
 ghost use Rattle.asp.specs.Sets.{pick};
 ghost use Rattle.asp.specs.Tables.{is_weighted, row_at};
-ghost use Rattle.search.specs.Scan.{cond_at, meet_of, note_of, scan_of};
+ghost use Rattle.search.specs.Scan.{scan_of};
 ghost use Rattle.search.specs.Lent.{rules_lent};
 ghost use Rattle.counting.specs.Counters.{counters, marks};
 ghost use Rattle.counting.specs.Counts.{Told, MarksRight, NoneBelow, NoneIn, SpotSays, spotted_of, Spotted};
@@ -49,7 +49,7 @@ fn lowest_zero(m: Marks, count: usize, r: usize) -> usize
 }
 
 fn differs(key: &[u16; 2048], r: usize, x: u16) -> bool
-    requires { (r < 2048) × (length key.now ≡ 2048) }
+    requires { r < 2048 }
     ensures { result ≡ pick (eqb (get_or key.now r 0) x) false true }
 {
     key[r] != x
@@ -57,7 +57,7 @@ fn differs(key: &[u16; 2048], r: usize, x: u16) -> bool
 
 // Whether the numbers of so many rules are all others than x. There is no branch for each, so that the compiler compares them side by side.
 fn two_differ(key: &[u16; 2048], r: usize, x: u16) -> bool
-    requires { (r + 2 ≤ 2048) × (length key.now ≡ 2048) }
+    requires { r + 2 ≤ 2048 }
     ensures { result ≡ true → NoneIn key.now x r 2 }
 {
     let first = differs(key, r, x);
@@ -66,7 +66,7 @@ fn two_differ(key: &[u16; 2048], r: usize, x: u16) -> bool
 }
 
 fn four_differ(key: &[u16; 2048], r: usize, x: u16) -> bool
-    requires { (r + 4 ≤ 2048) × (length key.now ≡ 2048) }
+    requires { r + 4 ≤ 2048 }
     ensures { result ≡ true → NoneIn key.now x r 4 }
 {
     let first = two_differ(key, r, x);
@@ -75,7 +75,7 @@ fn four_differ(key: &[u16; 2048], r: usize, x: u16) -> bool
 }
 
 fn eight_differ(key: &[u16; 2048], r: usize, x: u16) -> bool
-    requires { (r + 8 ≤ 2048) × (length key.now ≡ 2048) }
+    requires { r + 8 ≤ 2048 }
     ensures { result ≡ true → NoneIn key.now x r 8 }
 {
     let first = four_differ(key, r, x);
@@ -84,7 +84,7 @@ fn eight_differ(key: &[u16; 2048], r: usize, x: u16) -> bool
 }
 
 fn sixteen_differ(key: &[u16; 2048], r: usize, x: u16) -> bool
-    requires { (r + 16 ≤ 2048) × (length key.now ≡ 2048) }
+    requires { r + 16 ≤ 2048 }
     ensures { result ≡ true → NoneIn key.now x r 16 }
 {
     let first = eight_differ(key, r, x);
@@ -94,28 +94,13 @@ fn sixteen_differ(key: &[u16; 2048], r: usize, x: u16) -> bool
 
 // Whether the scan may pass over sixteen rules at once.
 fn may_skip(key: &[u16; 2048], r: usize, x: u16) -> bool
-    requires { (r < 2048) × (length key.now ≡ 2048) }
+    requires { r < 2048 }
     ensures { result ≡ true → NoneIn key.now x r 16 }
 {
     if 2032 < r {
         return false;
     }
     sixteen_differ(key, r, x)
-}
-
-// What is left of the condition at place k alone.
-fn left_at<'a>(pool: &'a [i32], value: &'a [u8; 1025], mid: usize, k: usize) -> Rest
-    requires k_in_bounds { k < length pool.now }
-    requires pos_bound { nat_abs (get_or pool.now k (pos 0)) ≤ 1024 }
-    ensures { result ≡ meet_of value.now Rest.All (cond_at pool.now mid k) }
-{
-    scan::meet_at(pool, value, Rest::All, mid, k)
-}
-
-fn noted(rest: Rest) -> Found
-    ensures { result ≡ note_of Found.Clear rest }
-{
-    scan::note(Found::Clear, rest)
 }
 
 // What is found of rule r, with a weighted body.
@@ -145,9 +130,9 @@ fn by_conditions(
     let row = g.rules.rows[r];
     let mid = row.body_first();
     for k in usize::from(row.first)..mid + usize::from(row.literals) {
-        let rest = left_at(g.rules.pool, value, mid, k);
+        let rest = scan::left_at(g.rules.pool, value, mid, k);
         if !rest.is_all() {
-            return noted(rest);
+            return rest.noted();
         }
     }
     Found::Broken(r)

@@ -1,6 +1,7 @@
 // The test of a trail, and one step of the machine, by the numbers of the rules.
 ghost use Rattle.std.specs.Prelude.{◌≡◌, ◌≤◌};
 ghost use Rattle.search.specs.Places.{Good};
+ghost use Rattle.search.specs.Soft.{FormedSoft};
 ghost use Rattle.search.specs.Branch.{Noted, lowest_of};
 ghost use Rattle.search.specs.Step.{test_by, test_of, stepped, step_of};
 ghost use Rattle.search.specs.Lent.{rules_lent, assumed_lent};
@@ -47,6 +48,7 @@ fn test(g: &Listed<'_>, w: &Wishes<'_>, trail: &Places, t: &mut Counters) -> Tes
 // One step: the test, then the move that it asks for. A full trail stays, for the caller to judge.
 pub fn step(g: &Listed<'_>, w: &Wishes<'_>, trail: &mut Places, t: &mut Counters) -> Tested
     requires atoms { w.now.atoms ≡ g.now.rules.atoms }
+    requires formed { FormedSoft w.now.atoms (assumed_lent w.now) }
     requires good { Good trail.old }
     requires tracks { Tracks (rules_lent g.now.rules) g.now.lists.now trail.old.value t.old }
     ensures stepped { stepped result trail.new ≡ step_of (rules_lent g.now.rules) w.now.atoms (assumed_lent w.now) trail.old }

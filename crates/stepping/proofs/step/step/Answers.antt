@@ -4,7 +4,7 @@ use Rattle.search.proofs.StepLaws.{open_room, open_small}
 use Rattle.stepping.proofs.step.step.Goals as goal
 
 pub push-requires : goal.push-requires
-push-requires c = (search (open_room, rules), open_small _ _ _ _ _ _ _ (rw c.requires.atoms c.args.g.now.rules.formed) c.args.w.now.formed c.test-tested.ensures.tested c.in-Open.is)
+push-requires c = (search (open_room, rules), open_small _ _ _ _ _ _ _ (rw c.requires.atoms c.args.g.now.rules.formed) c.requires.formed c.test-tested.ensures.tested c.in-Open.is)
 
 pub returns-in-RuleBroken-clause-stepped : goal.returns-in-RuleBroken-clause-stepped
 returns-in-RuleBroken-clause-stepped c = after_cut _ _ _ c.args.trail.now _ _ _ c.test-tested.ensures.tested c.in-RuleBroken.is c.back.ensures
@@ -14,10 +14,8 @@ returns-in-RuleBroken-clause-tracks c = counted_back c.args.g.now.indexed c.requ
 
 pub returns-in-Open-clause-stepped : goal.returns-in-Open-clause-stepped
 returns-in-Open-clause-stepped c =
-    let w = c.args.w.now in
-    after_open _ _ _ _ _ c.args.trail.now _ _ _ (rw c.requires.atoms c.args.g.now.rules.formed) w.formed c.test-tested.ensures.tested c.in-Open.is c.push.ensures
+    after_open _ _ _ _ _ c.args.trail.now _ _ _ (rw c.requires.atoms c.args.g.now.rules.formed) c.requires.formed c.test-tested.ensures.tested c.in-Open.is c.push.ensures
 
 pub returns-in-Open-clause-tracks : goal.returns-in-Open-clause-tracks
 returns-in-Open-clause-tracks c =
-    let w = c.args.w.now in
-    counted_open (rw c.requires.atoms c.args.g.now.rules.formed) w.formed c.args.g.now.indexed c.requires.good c.test-tested.ensures.tested c.test-tested.ensures.tracks c.in-Open.is c.push.ensures
+    counted_open (rw c.requires.atoms c.args.g.now.rules.formed) c.requires.formed c.args.g.now.indexed c.requires.good c.test-tested.ensures.tested c.test-tested.ensures.tracks c.in-Open.is c.push.ensures

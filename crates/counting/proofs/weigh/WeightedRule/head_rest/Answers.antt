@@ -13,4 +13,4 @@ returns-in-Plain c = head_none c.args.self.pool.now c.args.self.row c.args.value
 
 pub returns-in-Plain-2 : goal.returns-in-Plain-2
 unfolding is_choice
-returns-in-Plain-2 c = head_one c.args.self.pool.now c.args.self.row c.args.value.now c.args.self.weighs (rw c.in-Plain.is) c.if-self-eq0.false (rw (c.from-first.ensures, c.from.ensures) at c.meet_at.ensures)
+returns-in-Plain-2 c = head_one c.args.self.pool.now c.args.self.row c.args.value.now c.args.self.weighs (rw c.in-Plain.is) c.if-self-eq0.false (rw (c.from-first.ensures, c.from.ensures) at c.left_at.ensures)
