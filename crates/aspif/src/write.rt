@@ -1,6 +1,5 @@
 // Write-out: the stored text, which is the text of the load less its comment lines, at the front of a lent buffer.
-ghost use Rattle.std.specs.Prelude.{◌≡◌, ◌≤◌, length};
-ghost use Rattle.aspif_lines.specs.Seen.{bytes_at};
+ghost use Rattle.std.specs.Prelude.{◌≡◌, length};
 ghost use Rattle.aspif.specs.Write.{written_of, buffer_of};
 
 // Refusal 8: the lent bytes are too short, and this is the length that is needed.
@@ -9,15 +8,15 @@ pub struct Short {
     pub needed: usize,
 }
 
-// The first `used` bytes of the text: how many were written.
-#[tactic(auto, using(crate::proofs::Writes::write_short))]
-pub fn write(text: &[u8], used: usize, buffer: &mut [u8]) -> Result<usize, Short>
-    requires { used ≤ length text.now }
-    ensures { (result ≡ written_of used (length buffer.old)) × (buffer.new ≡ buffer_of (bytes_at text.now 0 used) buffer.old) }
+// A text: how many bytes were written.
+#[tactic(auto, using(crate::proofs::Writes::write_short, crate::proofs::Writes::write_done))]
+pub fn write(text: &[u8], buffer: &mut [u8]) -> Result<usize, Short>
+    ensures { (result ≡ written_of (length text.now) (length buffer.old)) × (buffer.new ≡ buffer_of text.now buffer.old) }
 {
-    if buffer.len() < used {
-        return Err(Short { needed: used });
+    let needed = text.len();
+    if buffer.len() < needed {
+        return Err(Short { needed });
     }
-    buffer[..used].copy_from_slice(&text[..used]);
-    Ok(used)
+    buffer[..needed].copy_from_slice(text);
+    Ok(needed)
 }

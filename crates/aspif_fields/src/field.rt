@@ -16,7 +16,7 @@ pub const MOST_COUNT: usize = 1024; // "each count 0 to 1,024"
 fn is_within(v: usize, lo: usize, hi: usize) -> bool
     ensures { result ≡ within lo hi v }
 {
-    lo <= v && v <= hi
+    (lo..=hi).contains(&v)
 }
 
 // A number from lo to hi; any other is refused.
@@ -39,9 +39,7 @@ impl<'a> Rest<'a> {
         ensures answer { read result self.new.bytes.now ≡ number lo hi self.old.bytes.now }
         ensures range { IfOk result (λ v. (lo ≤ v) × (v ≤ hi)) }
     {
-        let Some(value) = self.read_token() else {
-            return Err(Refusal::Malformed);
-        };
+        let value = self.read_token().ok_or(Refusal::Malformed)?;
         in_range(value, lo, hi)
     }
 
@@ -52,21 +50,18 @@ impl<'a> Rest<'a> {
         ensures answer { read result self.new.bytes.now ≡ natural lo hi self.old.bytes.now }
         ensures range { IfOk result (λ v. (lo ≤ v) × (v ≤ hi)) }
     {
-        let Some(value) = self.read_field_token() else {
-            return Err(Refusal::Malformed);
-        };
+        let value = self.read_field_token().ok_or(Refusal::Malformed)?;
         in_range(value, lo, hi)
     }
 
     // A space, and a number that may have a minus, from -hi to hi.
+    #[tactic(auto, using(crate::proofs::Tokens::signed_token_lem, crate::proofs::Tokens::signed_numbered, crate::proofs::Tokens::signed_unnumbered), unfolding(crate::specs::Fields::signed))]
     pub fn read_signed(&mut self, hi: u32) -> Result<i32, Refusal>
         requires { hi ≤ 1000000 }
         ensures answer { read result self.new.bytes.now ≡ field (signed hi) self.old.bytes.now }
         ensures range { IfOk result (λ z. nat_abs z ≤ hi) }
     {
-        let Some(value) = self.read_signed_token() else {
-            return Err(Refusal::Malformed);
-        };
+        let value = self.read_signed_token().ok_or(Refusal::Malformed)?;
         if hi < value.unsigned_abs() {
             return Err(Refusal::OutOfRange);
         }

@@ -8,9 +8,6 @@ ghost use Rattle.aspif_fields.specs.SeenFields.{capped, capped_signed, due};
 // Above every range: no value of a token is greater.
 const BEYOND: usize = 1000000001;
 
-// No digit more after a greater value is below it.
-const TENTH: usize = 100000000;
-
 // What is left of a line: each reader takes a field from its front.
 #[derive(Clone, Copy, PartialEq, Eq, Debug)]
 pub struct Rest<'a> {
@@ -28,9 +25,6 @@ fn push(v: usize, b: u8) -> usize
     requires { (v ≤ 1000000001) × (48 ≤ b) }
     ensures { result ≡ min 1000000001 (v * 10 + (b - 48)) }
 {
-    if TENTH < v {
-        return BEYOND;
-    }
     (v * 10 + usize::from(b - b'0')).min(BEYOND)
 }
 

@@ -19,7 +19,7 @@ const MOST_NAME: usize = 64; // document 01: "a symbol's m 1 to 64"
 fn is_name(b: u8) -> bool
     ensures { result ≡ within 32 126 b }
 {
-    32 <= b && b <= 126
+    (32..=126).contains(&b)
 }
 
 // Whether such a byte comes next.

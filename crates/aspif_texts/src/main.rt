@@ -7,7 +7,7 @@ ghost use Rattle.std.specs.Prelude.{◌≤◌};
 
 mod figures;
 
-use aspif::text::{RefusedAt, Stored, load};
+use aspif::text::{Stored, load};
 use aspif::write::{Short, write};
 use figures::{Figures, figures_of};
 use std::io;
@@ -49,9 +49,7 @@ fn one_text(rt: &impl Print, input: &mut impl Read) -> io::Result<bool> {
 fn answer(rt: &impl Print, s: &[u8]) -> io::Result<()> {
     match load(s) {
         Ok(p) => accepted(rt, &p),
-        Err(RefusedAt { refusal, line }) => {
-            println!(rt; "refused {} at line {line}", refusal.number())
-        }
+        Err(refused) => println!(rt; "{refused}"),
     }
 }
 
@@ -60,7 +58,7 @@ fn accepted(rt: &impl Print, p: &Stored) -> io::Result<()>
     requires { p.now.counts.text ≤ 65536 }
 {
     let mut buffer = [0u8; 65600];
-    let Ok(length) = write(&p.text, p.counts.text, &mut buffer) else {
+    let Ok(length) = write(&p.text[..p.counts.text], &mut buffer) else {
         return rt.print("short\n");
     };
     let f = figures_of(p, &buffer);
@@ -80,7 +78,7 @@ fn small(rt: &impl Print, p: &Stored) -> io::Result<()>
     requires { p.now.counts.text ≤ 65536 }
 {
     let mut few = [7u8; 16];
-    match write(&p.text, p.counts.text, &mut few) {
+    match write(&p.text[..p.counts.text], &mut few) {
         Ok(length) => print!(rt; " wrote {length} {}", sevens(&few, length)),
         Err(Short { needed }) => print!(rt; " short {needed} {}", sevens(&few, 0)),
     }

@@ -6,17 +6,17 @@ use Prim.Native.Nat.{ℕ, suc, ◌+◌, ◌-◌, ◌≤◌, ◌<◌}
 use native.Mathlib.Omega.{arith}
 use native.Mathlib.Numerals.{add-one}
 use lib.Dec.{ltb}
-use lib.ListN.{length, get_or, take, drop, set, length-drop}
-use lib.Seq.{drop-cons, get_or-drop, take-length}
+use lib.ListN.{length, get_or, take, drop, set}
+use lib.Seq.{drop-cons}
 use borrow.Author.Tests.{lt-ltb}
 use Rattle.asp.specs.Sets.{pick}
 use Rattle.asp.specs.Tables.{span}
 use Rattle.asp.specs.declared.symbols.SymbolRow.{SymbolRow}
-use Rattle.aspif_lines.specs.Seen.{bytes_at}
 use Rattle.aspif.specs.Write.{written_of, buffer_of}
 use Rattle.std.proofs.Common.{Result, Ok, Err}
 use Rattle.aspif.specs.declared.write.Short.{Short}
-use Rattle.aspif_lines.proofs.Spans.{span_snoc, span_length, span_shift}
+use Rattle.aspif_lines.proofs.Spans.{span_snoc, span_length}
+use Rattle.aspif.proofs.Uses.{bytes_part}
 use Rattle.planner.specs.Held.{Holding}
 use Rattle.planner.specs.Calls.{Says, gives, refuses_for, fills, Filling, filling, filled_with, filled, room_for, says_written, name_of}
 
@@ -62,19 +62,9 @@ written_says size room = go (ltb room size)
     go true = refl
     go false = refl
 
--- a write of k bytes of a text
-pub written_fills : (t : List ℕ) (k : ℕ) (old bytes : List ℕ) {w : Result ℕ Short} {a : Says ℕ} → a ≡ says_written w → w ≡ written_of k (length old) → bytes ≡ buffer_of (bytes_at t 0 k) old
-    → filling a bytes ≡ filled_with (bytes_at t 0 k) old
-written_fills t k old bytes p q e =
-    ap₂ filling (p ∙ ap says_written q ∙ written_says k (length old) ∙ ap (λ (m : ℕ). room_for m (length old)) (sym (span_length (λ (j : ℕ). get_or t j 0) 0 k))) e
-
--- the bytes from a place on
-pub bytes_from : (t : List ℕ) (i k : ℕ) → bytes_at (drop i t) 0 k ≡ bytes_at t i k
-bytes_from t i k = span_shift (λ (j : ℕ). get_or (drop i t) j 0) (λ (j : ℕ). get_or t j 0) 0 i k (λ j l. let z : 0 + j ≡ j = omega arith in rw z (get_or-drop i t j 0))
-
--- a slice from a place on
-pub all_from : (t : List ℕ) (i : ℕ) → take (length t - i) (drop i t) ≡ drop i t
-all_from t i = rw (← length-drop i t) (take-length (drop i t))
+-- a write of a text
+pub written_fills : (t old bytes : List ℕ) {w : Result ℕ Short} {a : Says ℕ} → a ≡ says_written w → w ≡ written_of (length t) (length old) → bytes ≡ buffer_of t old → filling a bytes ≡ filled_with t old
+written_fills t old bytes p q e = ap₂ filling (p ∙ ap says_written q ∙ written_says (length t) (length old)) e
 
 -- ---- calls that fill lent bytes
 
@@ -82,7 +72,8 @@ pub fills_as : (s : Holding) (t old : List ℕ) {a : Says ℕ} {b : List ℕ} �
 fills_as s t old e = ap (λ (x : Filling). fills x.answer s x.bytes) e
 
 -- a name, from the row of its symbol
-pub name_fills : (text : List ℕ) (row : SymbolRow) (old : List ℕ) {x y : ℕ} → x ≡ row.name → y ≡ row.length → {t : List ℕ} → t ≡ drop x text
-    → {z : Filling} → z ≡ filled_with (bytes_at t 0 y) old → z ≡ filled_with (name_of text row) old
-name_fills text row old {x} {y} p q r e =
-    e ∙ ap (λ (u : List ℕ). filled_with u old) (ap (λ (u : List ℕ). bytes_at u 0 y) r ∙ bytes_from text x y ∙ ap₂ (bytes_at text) p q)
+pub name_fills : (text : List ℕ) (row : SymbolRow) (old : List ℕ) {x y : ℕ} → x ≡ row.name → y ≡ row.length → row.name + row.length ≤ length text
+    → {z : Filling} → z ≡ filled_with (take (x + y - x) (drop x text)) old → z ≡ filled_with (name_of text row) old
+name_fills text row old {x} {y} p q h e =
+    let k : x + y - x ≡ y = omega arith in
+    e ∙ ap (λ (u : List ℕ). filled_with u old) (rw (k, p, q) (sym (bytes_part text row.name row.length h)))

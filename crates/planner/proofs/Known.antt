@@ -183,6 +183,9 @@ module _ {l : Loaded} (h : ∥ Sound l ∥₁) where
   pub known_text : l.stored.counts.text ≤ length l.stored.text
   known_text = ∥∥₁_elim h le_prop (λ s. omega (arith, s.formed.text, s.formed.sized.text))
 
+  pub known_end : l.stored.counts.text ≤ 65536
+  known_end = ∥∥₁_elim h le_prop (λ s. s.formed.text)
+
   pub known_atoms : l.stored.counts.atoms ≤ 1024
   known_atoms = ∥∥₁_elim h le_prop (λ s. s.formed.formed.few)
 

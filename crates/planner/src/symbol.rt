@@ -15,7 +15,7 @@ fn fill_name(text: &[u8], row: SymbolRow, bytes: &mut [u8]) -> Result<usize, Ref
 {
     let first = usize::from(row.name);
     let length = usize::from(row.length);
-    written(aspif::write::write(&text[first..], length, bytes))
+    written(aspif::write::write(&text[first..first + length], bytes))
 }
 
 impl Service {

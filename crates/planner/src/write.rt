@@ -12,6 +12,7 @@ impl Service {
         let Some(l) = &self.held else {
             return Err(Refusal::NotLoaded);
         };
-        written(aspif::write::write(&l.stored.text, l.stored.counts.text, bytes))
+        let text = &l.stored.text[..l.stored.counts.text];
+        written(aspif::write::write(text, bytes))
     }
 }

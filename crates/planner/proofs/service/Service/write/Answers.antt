@@ -1,12 +1,15 @@
+use Rattle.std.proofs.Common.{arith}
+use Rattle.aspif.proofs.Uses.{bytes_part}
 use Rattle.planner.proofs.Filling.{written_fills}
-use Rattle.planner.proofs.Known.{known_text}
+use Rattle.planner.proofs.Known.{known_text, known_end}
 use Rattle.planner.proofs.Moving.{write_is}
 use Rattle.planner.proofs.service.Service.write.Goals as goal
 
-pub write-requires : goal.write-requires
-write-requires c = known_text (c.args.self.now.sound _ c.in-Some.is)
+pub shared_ref_as_front-text : goal.shared_ref_as_front-text
+shared_ref_as_front-text c = omega (arith, known_end (c.args.self.now.sound _ c.in-Some.is))
 
 pub returns : goal.returns
 returns c =
     let p = c.in-Some.l.stored in
-    write_is _ c.in-Some.is c.args.bytes.now (written_fills p.text p.counts.text c.args.bytes.now _ c.written.ensures c.write.ensures.0 c.write.ensures.1)
+    let t = bytes_part p.text 0 p.counts.text (omega (arith, known_text (c.args.self.now.sound _ c.in-Some.is))) in
+    write_is _ c.in-Some.is c.args.bytes.now (rw t (written_fills _ c.args.bytes.now _ c.written.ensures c.write.ensures.0 c.write.ensures.1))
