@@ -240,15 +240,11 @@ abbrev pub name_call : Holding → ℕ → List ℕ → Fills
 name_call None i b = unfilled 6 None b
 name_call (Some l) i b = pick (has_symbol l i) (filled (Some l) (symbol_of l.stored i).name b) (unfilled 9 (Some l) b)
 
--- "handed back as a part of the lent name bytes"; a refusal where the call is refused
-abbrev pub part_of : Says ℕ → List ℕ → Says (List ℕ)
-part_of (gives n) b = gives (take n b)
-part_of (refuses c) b = refuses c
-part_of (refuses_for c n) b = refuses_for c n
-
-abbrev pub says_part : Result (Bor (List ℕ)) Refusal → Says (List ℕ)
-says_part (Ok t) = gives t.now
-says_part (Err e) = says_refusal e
+-- "handed back as a part of the lent name bytes"; nothing where the call is refused
+abbrev pub part_of : Says ℕ → List ℕ → List ℕ
+part_of (gives n) b = take n b
+part_of (refuses c) b = []
+part_of (refuses_for c n) b = []
 
 -- "7 .. After 9."
 abbrev pub shown_says : Holding → ℕ → Says Bool

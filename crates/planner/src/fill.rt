@@ -1,6 +1,6 @@
 // Calls that fill lent bytes: what they wrote.
 ghost use Rattle.std.specs.Prelude.{◌≡◌};
-ghost use Rattle.planner.specs.Calls.{part_of, says, says_part, says_written};
+ghost use Rattle.planner.specs.Calls.{part_of, says, says_written};
 
 use crate::service::Refusal;
 use aspif::write::Short;
@@ -11,14 +11,14 @@ pub fn written(w: Result<usize, Short>) -> Result<usize, Refusal>
     w.map_err(|Short { needed }| Refusal::Short { needed })
 }
 
-// What a call wrote, as a part of the lent bytes; or its refusal.
-// Kept: a function beside the calls, since a slice that a call gave would keep the lent bytes lent, and the call says what became of them all.
-pub fn part<'a>(answer: Result<usize, Refusal>, bytes: &'a [u8]) -> Result<&'a [u8], Refusal>
-    ensures { says_part result ≡ part_of (says answer) bytes.now }
+// What a call wrote, as a part of the lent bytes; empty where it was refused.
+// Kept: a function beside the calls: a slice that a call gave would keep all of the lent bytes lent.
+pub fn part<'a>(answer: Result<usize, Refusal>, bytes: &'a [u8]) -> &'a [u8]
+    ensures { result.now ≡ part_of (says answer) bytes.now }
 {
     match answer {
-        Ok(n) if n <= bytes.len() => Ok(&bytes[..n]),
-        Ok(_) => Ok(bytes),
-        Err(refusal) => Err(refusal),
+        Ok(n) if n <= bytes.len() => &bytes[..n],
+        Ok(_) => bytes,
+        Err(_) => &bytes[..0],
     }
 }

@@ -2,6 +2,7 @@ use Rattle.std.proofs.Common.{arith, ◌<◌, ◌≡◌, length, get_or}
 use Rattle.asp.specs.Sets.{set_of}
 use Rattle.search.specs.declared.trail.Places.{Places}
 use Rattle.search.specs.Soft.{assumed_entries}
+use Rattle.search.proofs.Formed.{readable_soft}
 use Rattle.search.specs.Step.{stepped, step_of}
 use Rattle.search.specs.declared.step.Tested.{Tested}
 use Rattle.advancing.specs.Source.{rule_tables}
@@ -22,7 +23,13 @@ step_is w e = step_by (source_lent w.query.now.ground) (query_lent w.query.now) 
 pub invariant_of-wishes : goal.invariant_of-wishes
 invariant_of-wishes c =
     let w = c.args.self.now in
-    record { few = w.query.now.ready.source.rules.few; formed = soft_formed_by w.query.now.ready w.good_blame w.query.now.ground.ready.table }
+    let few = w.query.now.ready.source.rules.few in
+    record { few = few; readable = readable_soft _ _ few (soft_formed_by w.query.now.ready w.good_blame w.query.now.ground.ready.table) }
+
+pub step-requires-clause-formed : goal.step-requires-clause-formed
+step-requires-clause-formed c =
+    let w = c.args.self.now in
+    soft_formed_by w.query.now.ready w.good_blame w.query.now.ground.ready.table
 
 pub blame_entry-requires-clause-place : goal.blame_entry-requires-clause-place
 blame_entry-requires-clause-place c =
