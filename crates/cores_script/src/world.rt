@@ -31,6 +31,7 @@ impl World {
         ensures count { result.count ≡ 0 }
         ensures tables { result.tables ≡ empty_tables }
     {
+        // Kept: the fields of a free entry, as `Entry::default()` was tried and the proof that `entries` holds it did not close.
         let free = Entry {
             priority: 0,
             literal: 0,

@@ -29,6 +29,7 @@ pub fn fill<R: Read>(from: &mut R, bytes: &mut [u8]) -> io::Result<usize>
 }
 
 // The length of the argument at i, which is put at the front of the bytes; 0 where it is longer than they are.
+// Kept: 0, since every program takes an argument that is too long as it takes an empty one.
 pub fn argument(rt: &impl Env, i: usize, bytes: &mut [u8]) -> Option<usize>
     ensures count { IfSome result (λ k. k ≤ length bytes.new) }
     ensures size { length bytes.new ≡ length bytes.old }

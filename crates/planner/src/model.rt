@@ -33,9 +33,7 @@ impl Service {
     pub fn model(&self, bytes: &mut [u8]) -> Result<usize, Refusal>
         ensures { fills (says result) self.now.held bytes.new ≡ model_call self.now.held bytes.old }
     {
-        let Some(l) = &self.held else {
-            return Err(Refusal::NotLoaded);
-        };
+        let l = self.loaded()?;
         if !has_model(l.search.phase) {
             return Err(Refusal::NoModel);
         }

@@ -22,7 +22,8 @@ pub struct Service {
 }
 
 impl Service {
-    ghost use Rattle.std.specs.Prelude.{◌≡◌};
+    ghost use Rattle.std.specs.Prelude.{◌≡◌, Some, None, IfOk, IfErr};
+    ghost use Rattle.planner.specs.declared.service.Refusal.TheVariants.{NotLoaded};
     ghost use Rattle.planner.specs.Held.{fresh_service};
 
     // "A fresh service has nothing loaded and status empty."
@@ -30,6 +31,14 @@ impl Service {
         ensures { result.held ≡ fresh_service }
     {
         Service { held: None }
+    }
+
+    // What is loaded, for a call that reads it.
+    pub fn loaded(&self) -> Result<&Loaded, Refusal>
+        ensures held { IfOk result (λ l. self.now.held ≡ Some l.now) }
+        ensures empty { IfErr result (λ e. (e ≡ NotLoaded) × (self.now.held ≡ None)) }
+    {
+        self.held.as_ref().ok_or(Refusal::NotLoaded)
     }
 
     // "Clear empties the service."

@@ -23,9 +23,7 @@ impl Service {
     pub fn name(&self, i: usize, bytes: &mut [u8]) -> Result<usize, Refusal>
         ensures { fills (says result) self.now.held bytes.new ≡ name_call self.now.held i bytes.old }
     {
-        let Some(l) = &self.held else {
-            return Err(Refusal::NotLoaded);
-        };
+        let l = self.loaded()?;
         if l.stored.counts.symbols <= i {
             return Err(Refusal::NoSymbol);
         }
@@ -36,9 +34,7 @@ impl Service {
     pub fn shown(&self, i: usize) -> Result<bool, Refusal>
         ensures { outcome (says result) self.now.held ≡ shown_call self.now.held i }
     {
-        let Some(l) = &self.held else {
-            return Err(Refusal::NotLoaded);
-        };
+        let l = self.loaded()?;
         if l.stored.counts.symbols <= i {
             return Err(Refusal::NoSymbol);
         }

@@ -9,9 +9,7 @@ impl Service {
     pub fn write(&self, bytes: &mut [u8]) -> Result<usize, Refusal>
         ensures { fills (says result) self.now.held bytes.new ≡ write_call self.now.held bytes.old }
     {
-        let Some(l) = &self.held else {
-            return Err(Refusal::NotLoaded);
-        };
+        let l = self.loaded()?;
         let text = &l.stored.text[..l.stored.counts.text];
         written(aspif::write::write(text, bytes))
     }

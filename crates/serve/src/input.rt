@@ -12,6 +12,7 @@ fn next_byte(input: &mut impl Read) -> io::Result<Option<u8>> {
 
 // How many bytes the next line has without its byte 10; at the front of the lent bytes are those that there is room for. None at the end of the input, where a line
 // without its byte 10 counts, unless it is empty.
+// Kept: the length of a line that is too long, which the caller compares once: a third kind of answer would be no plainer.
 pub fn read_line(input: &mut impl Read, bytes: &mut [u8]) -> io::Result<Option<usize>> {
     for k in 0..usize::MAX {
         let Some(b) = next_byte(input)? else {
