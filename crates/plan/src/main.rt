@@ -5,7 +5,7 @@
 ghost use Rattle.std.specs.Prelude.{◌≡◌, ◌≤◌, IfOk, length};
 
 use console::print::{Figures, UpperBound};
-use planner::fill::part;
+use planner::fill::part_or;
 use planner::look::View;
 use planner::service::Service;
 use std::io;
@@ -146,7 +146,7 @@ fn symbol(rt: &impl Print, service: &Service, i: usize) -> io::Result<()> {
     // Kept: an array, since no program allocates.
     let mut bytes = [0u8; 64];
     let answer = service.name(i, &mut bytes);
-    let Ok(name) = part(answer, &bytes) else {
+    let Ok(name) = part_or(answer, &bytes) else {
         return Ok(());
     };
     rt.print("shown ")?;

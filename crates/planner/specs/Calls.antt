@@ -246,6 +246,16 @@ part_of (gives n) b = take n b
 part_of (refuses c) b = []
 part_of (refuses_for c n) b = []
 
+-- the same, or the refusal
+abbrev pub part_or : Says ℕ → List ℕ → Says (List ℕ)
+part_or (gives n) b = gives (take n b)
+part_or (refuses c) b = refuses c
+part_or (refuses_for c n) b = refuses_for c n
+
+abbrev pub says_part : Result (Bor (List ℕ)) Refusal → Says (List ℕ)
+says_part (Ok t) = gives t.now
+says_part (Err e) = says_refusal e
+
 -- "7 .. After 9."
 abbrev pub shown_says : Holding → ℕ → Says Bool
 shown_says None i = refuses 6

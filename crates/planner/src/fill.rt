@@ -1,6 +1,6 @@
 // Calls that fill lent bytes: what they wrote.
 ghost use Rattle.std.specs.Prelude.{◌≡◌};
-ghost use Rattle.planner.specs.Calls.{part_of, says, says_written};
+ghost use Rattle.planner.specs.Calls.{part_of, part_or, says, says_part, says_written};
 
 use crate::service::Refusal;
 use aspif::write::Short;
@@ -20,5 +20,16 @@ pub fn part<'a>(answer: Result<usize, Refusal>, bytes: &'a [u8]) -> &'a [u8]
         Ok(n) if n <= bytes.len() => &bytes[..n],
         Ok(_) => bytes,
         Err(_) => &bytes[..0],
+    }
+}
+
+// The same, or the refusal.
+pub fn part_or<'a>(answer: Result<usize, Refusal>, bytes: &'a [u8]) -> Result<&'a [u8], Refusal>
+    ensures { says_part result ≡ part_or (says answer) bytes.now }
+{
+    match answer {
+        Ok(n) if n <= bytes.len() => Ok(&bytes[..n]),
+        Ok(_) => Ok(bytes),
+        Err(refusal) => Err(refusal),
     }
 }

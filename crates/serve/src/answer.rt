@@ -4,7 +4,7 @@ ghost use Rattle.planner.specs.Held.{fresh_service};
 
 use crate::input;
 use console::print::{Figures, UpperBound};
-use planner::fill::part;
+use planner::fill::part_or;
 use planner::look::{InWork, View};
 use planner::service::{Refusal, Service};
 use std::io::Read;
@@ -74,7 +74,7 @@ pub fn write(rt: &impl Print, service: &Service, room: u32) -> io::Result<()> {
     let mut bytes = [0u8; WRITE_ROOM];
     let lent = &mut bytes[..WRITE_ROOM.min(index(room))];
     let answer = service.write(lent);
-    match part(answer, lent) {
+    match part_or(answer, lent) {
         Ok(text) => {
             let size = text.len();
             println!(rt; "text {size}")?;
@@ -89,7 +89,7 @@ pub fn model(rt: &impl Print, service: &Service, room: u32) -> io::Result<()> {
     let mut bytes = [0u8; MODEL_ROOM];
     let lent = &mut bytes[..MODEL_ROOM.min(index(room))];
     let answer = service.model(lent);
-    match part(answer, lent) {
+    match part_or(answer, lent) {
         Ok(atoms) => digits(rt, atoms),
         Err(refusal) => println!(rt; "{refusal}"),
     }
@@ -109,7 +109,7 @@ pub fn symbol(rt: &impl Print, service: &Service, at: u32, room: u32) -> io::Res
     let mut bytes = [0u8; NAME_ROOM];
     let lent = &mut bytes[..NAME_ROOM.min(index(room))];
     let answer = service.name(index(at), lent);
-    match part(answer, lent) {
+    match part_or(answer, lent) {
         Ok(name) => {
             let size = name.len();
             print!(rt; "name {size} ")?;
