@@ -10,5 +10,5 @@ pub mod fill; // calls that fill lent bytes: what they wrote
 pub mod model;
 pub mod print;
 pub mod symbol;
-pub mod tables;
+mod tables; // for load and run: no call of the service
 pub mod write;
