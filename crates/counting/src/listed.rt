@@ -3,6 +3,7 @@ ghost use Rattle.search.specs.Lent.{rules_lent};
 ghost use Rattle.counting.specs.Counts.{Indexed};
 
 use crate::index::Index;
+use crate::views::{ReadableRules, WeighableRules};
 use asp::rules::RuleTable;
 
 #[derive(Clone, Copy)]
@@ -10,4 +11,33 @@ pub struct Listed<'a> {
     pub rules: RuleTable<'a>,
     pub lists: &'a Index,
     pub ghost indexed: { Indexed (rules_lent rules) lists.now },
+}
+
+impl<'a> Listed<'a> {
+    ghost use Rattle.std.specs.Prelude.{◌≡◌};
+    ghost use Rattle.search.specs.Lent.{rules_lent};
+    ghost use Rattle.counting.specs.Lent.{bodies_lent, lists_lent};
+    ghost use Rattle.counting.specs.Views.{rules_read, bodies_weighed};
+
+    // The rules, for a scan.
+    pub fn readable(&self) -> ReadableRules<'a>
+        ensures { rules_read result ≡ rules_lent self.now.rules }
+    {
+        ReadableRules {
+            pool: self.rules.pool,
+            rows: self.rules.rows,
+        }
+    }
+
+    // The rules and their lists, for a move of the trail.
+    pub fn weighable(&self) -> WeighableRules<'a>
+        ensures bodies { bodies_weighed result ≡ bodies_lent self.now.rules }
+        ensures lists { lists_lent result.lists ≡ self.now.lists.now }
+    {
+        WeighableRules {
+            pool: self.rules.pool,
+            rows: self.rules.rows,
+            lists: self.lists.lent(),
+        }
+    }
 }
