@@ -252,6 +252,10 @@ spotted_off s r e = rw e
 
 -- ---- what the calls ask
 
+module _ (g : Rules) {r k h : ℕ} where
+  pub mid_in_lem : Readable g → r < g.count → length g.pool < 2 ^ 64 → k ≡ (row_of g r).first → h ≡ (row_of g r).heads → Fits w64 (k + h)
+  mid_in_lem f l z ek eh = omega (arith, f.inside r l)
+
 module _ {g : Rules} {v : List ℕ} {r mid end k : ℕ} (i : Inner g v r mid end k) where
   pub place_in : k < end → k < length g.pool
   place_in h = omega (arith, i.inside)

@@ -1,5 +1,5 @@
 -- The ways that a test and a step go, from what their calls say. Assumes nothing.
-use mathlib.Core.Path.{◌≡◌, refl, ap, ◌∙◌}
+use mathlib.Core.Path.{◌≡◌, refl, ap, ap₂, ◌∙◌}
 use mathlib.Core.Bool.{Bool, true, false}
 use mathlib.Core.Logic.{◌⊎◌, inl, inr}
 use mathlib.Core.List.{List}
@@ -85,6 +85,15 @@ back_trail bs o (suc k) h = go (is_decision (get_or h.trail.marks k Free)) (back
         → (pick b (put_all bs o (neg_ℤ (get_or h.trail.lits k (pos 0))) Flipped (drop_all bs o k h)) (back_all_from bs o k (drop_all bs o k h))).trail ≡ pick b (put_of (neg_ℤ (get_or h.trail.lits k (pos 0))) Flipped (drop_of k h.trail)) (back_from k (drop_of k h.trail))
     go true r = refl
     go false r = r
+
+-- ---- a move by equal bodies and lists
+
+module _ {b c : Bodies} {o p : Index} (e : b ≡ c) (q : o ≡ p) (h : CountedTrail) {x : CountedTrail} where
+  pub put_by : (l : ℤ) (m : Mark) → x ≡ put_all b o l m h → x ≡ put_all c p l m h
+  put_by l m z = z ∙ ap₂ (λ (d : Bodies) (i : Index). put_all d i l m h) e q
+
+  pub back_by : x ≡ back_all b o h → x ≡ back_all c p h
+  back_by z = z ∙ ap₂ (λ (d : Bodies) (i : Index). back_all d i h) e q
 
 -- ---- the step
 

@@ -34,7 +34,8 @@ fn test(g: &Listed<'_>, w: &Wishes<'_>, trail: &Places, t: &mut Counters) -> Tes
     ensures tested { result ≡ test_of (rules_lent g.now.rules) w.now.atoms (assumed_lent w.now) trail.now.value trail.now.len }
     ensures tracks { Tracks (rules_lent g.now.rules) g.now.lists.now trail.now.value t.new }
 {
-    let s = scan::scan(g, t, &trail.value);
+    let rules = g.readable();
+    let s = scan::scan(&rules, t, &trail.value);
     let a = branch::lowest(&trail.value, w.atoms, t.marks.atom);
     t.marks = Marks {
         low: s.low,
@@ -55,9 +56,10 @@ pub fn step(g: &Listed<'_>, w: &Wishes<'_>, trail: &mut Places, t: &mut Counters
     ensures tracks { Tracks (rules_lent g.now.rules) g.now.lists.now trail.new.value t.new }
 {
     let tested = test(g, w, trail, t);
+    let rules = g.weighable();
     match tested {
-        Tested::RuleBroken(_) | Tested::SoftViolated(_) => trail::back(g, trail, t),
-        Tested::Open(l) => trail::push(g, trail, t, l),
+        Tested::RuleBroken(_) | Tested::SoftViolated(_) => trail::back(&rules, trail, t),
+        Tested::Open(l) => trail::push(&rules, trail, t, l),
         Tested::Full => (),
     }
     tested

@@ -1,12 +1,11 @@
 use borrow.Author.Rules.{rules}
-use Rattle.search.proofs.Formed.{readable}
 use Rattle.stepping.proofs.ScanLaws.{inner_start, inner_next, broken_here, breaker_here}
 use Rattle.stepping.proofs.scan.by_conditions.Goals as goal
 
 pub loop-k-init : goal.loop-k-init
 loop-k-init c =
     let p = c.requires in
-    inner_start _ _ _ _ _ (readable _ _ _ _ c.args.g.now.rules.formed) p.told p.sought.1 p.sought.0 p.sought.2 p.normal c.from-k.ensures c.body_first-mid.ensures.value (search rules)
+    inner_start _ _ _ _ _ c.args.g.now.readable p.told p.sought.1 p.sought.0 p.sought.2 p.normal c.from-k.ensures c.body_first-mid.ensures.value (search rules)
 
 pub returns-then-not-is_all : goal.returns-then-not-is_all
 returns-then-not-is_all c =
