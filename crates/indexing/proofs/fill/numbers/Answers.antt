@@ -1,6 +1,6 @@
 use borrow.Author.Rules.{rules as needs}
 use Rattle.indexing.proofs.FillLaws.{filled_start, filled_next, filled_done}
-use Rattle.indexing.proofs.fill.fill.Goals as goal
+use Rattle.indexing.proofs.fill.numbers.Goals as goal
 
 pub loop-a-init : goal.loop-a-init
 loop-a-init c = search (filled_start, needs)
