@@ -60,15 +60,16 @@ impl Walk<'_> {
         ensures turned { turned result self.new.trail.now self.new.blame.now ≡ judged_turn (query_lent self.old.query.now) self.old.trail.now self.old.blame.now (judge_full (source_lent self.old.query.now.ground) (query_lent self.old.query.now) (blamed_of self.old.blame.now) self.old.trail.now.value) }
     {
         let query = self.query;
+        let rules = query.ground.listed.weighable();
         match query.judge_full(blamed(self.blame), &self.trail.value, self.counters) {
             Judgement::Wanted => Turn::Model,
             Judgement::Dead => {
-                trail::back(&query.ground.listed, self.trail, self.counters);
+                trail::back(&rules, self.trail, self.counters);
                 backed(self.trail)
             }
             Judgement::Violated(p) => {
                 blame_place(query.spots, p, self.blame);
-                trail::back(&query.ground.listed, self.trail, self.counters);
+                trail::back(&rules, self.trail, self.counters);
                 backed(self.trail)
             }
         }

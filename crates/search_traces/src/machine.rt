@@ -83,7 +83,8 @@ impl Machine<'_> {
         ensures back { self.new.trail ≡ back_of self.old.trail }
         ensures same { SameQuery self.old self.new }
     {
-        trail::back(&self.listed, &mut self.trail, &mut self.counters);
+        let rules = self.listed.weighable();
+        trail::back(&rules, &mut self.trail, &mut self.counters);
     }
 
     // The wish that the trail violates.
