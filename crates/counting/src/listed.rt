@@ -1,16 +1,17 @@
 // Rules, with the lists in which they stand by condition.
 ghost use Rattle.search.specs.Lent.{rules_lent};
 ghost use Rattle.counting.specs.Counts.{Indexed};
+ghost use Rattle.counting.specs.Lent.{lists_lent};
 
-use crate::index::Index;
+use crate::index::Lists;
 use crate::views::{ReadableRules, WeighableRules};
 use asp::rules::RuleTable;
 
 #[derive(Clone, Copy)]
 pub struct Listed<'a> {
     pub rules: RuleTable<'a>,
-    pub lists: &'a Index,
-    pub ghost indexed: { Indexed (rules_lent rules) lists.now },
+    pub lists: Lists<'a>,
+    pub ghost indexed: { Indexed (rules_lent rules) (lists_lent lists) },
 }
 
 impl<'a> Listed<'a> {
@@ -23,21 +24,22 @@ impl<'a> Listed<'a> {
     pub fn readable(&self) -> ReadableRules<'a>
         ensures { rules_read result ≡ rules_lent self.now.rules }
     {
+        let rules = self.rules;
         ReadableRules {
-            pool: self.rules.pool,
-            rows: self.rules.rows,
+            pool: rules.pool,
+            rows: rules.rows,
         }
     }
 
     // The rules and their lists, for a move of the trail.
     pub fn weighable(&self) -> WeighableRules<'a>
         ensures bodies { bodies_weighed result ≡ bodies_lent self.now.rules }
-        ensures lists { lists_lent result.lists ≡ self.now.lists.now }
+        ensures lists { lists_lent result.lists ≡ lists_lent self.now.lists }
     {
         WeighableRules {
             pool: self.rules.pool,
             rows: self.rules.rows,
-            lists: self.lists.lent(),
+            lists: self.lists,
         }
     }
 }

@@ -5,6 +5,7 @@ ghost use Rattle.search.specs.Lent.{rules_lent};
 ghost use Rattle.search.specs.Alone.{sound_trail-prop};
 ghost use Rattle.indexing.specs.Sorting.{Sorted};
 ghost use Rattle.counting.specs.Counts.{Tracks};
+ghost use Rattle.counting.specs.Lent.{lists_lent};
 ghost use Rattle.std.proofs.Props.{props};
 ghost use Rattle.search_traces.specs.Stored.{Wished};
 
@@ -30,7 +31,7 @@ pub struct Machine<'a> {
     pub blamed: [u8; 8],
     pub ghost wishes: { Wished listed.rules.atoms wished.now } by { Prim.hlevel props },
     pub ghost sound: { SoundTrail listed.rules.atoms trail } by { sound_trail-prop _ _ },
-    pub ghost tracks: { Tracks (rules_lent listed.rules) listed.lists.now trail.value counters },
+    pub ghost tracks: { Tracks (rules_lent listed.rules) (lists_lent listed.lists) trail.value counters },
 }
 
 impl<'a> Machine<'a> {
@@ -41,7 +42,7 @@ impl<'a> Machine<'a> {
     {
         let listed = Listed {
             rules: program.table,
-            lists: conditions,
+            lists: conditions.lent(),
         };
         let trail = Places::fresh();
         let counters = fill::fill(&listed, &trail.value);

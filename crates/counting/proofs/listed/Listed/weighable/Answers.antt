@@ -5,4 +5,4 @@ use Rattle.counting.proofs.listed.Listed.weighable.Goals as goal
 pub invariant_of-result : goal.invariant_of-result
 invariant_of-result c =
     let g = c.args.self.now in
-    record { weighable = rw c.lent.ensures (indexed_weighable g.indexed (readable _ _ _ _ g.rules.formed)) }
+    record { weighable = indexed_weighable g.indexed (readable _ _ _ _ g.rules.formed) }

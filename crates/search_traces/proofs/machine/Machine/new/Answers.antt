@@ -4,7 +4,7 @@ use Rattle.search_traces.proofs.Laws.{program_indexed}
 use Rattle.search_traces.proofs.machine.Machine.new.Goals as goal
 
 pub invariant_of-listed : goal.invariant_of-listed
-invariant_of-listed c = record { indexed = program_indexed c.args.program.table.formed c.args.program.roomy c.requires }
+invariant_of-listed c = record { indexed = rw c.lent.ensures (program_indexed c.args.program.table.formed c.args.program.roomy c.requires) }
 
 pub fill-counters-requires : goal.fill-counters-requires
 fill-counters-requires c = sound_small_values (after_fresh 0 c.fresh-trail.ensures)
