@@ -40,7 +40,9 @@ impl Query<'_> {
         requires sound_trail { SoundTrail self.now.ground.listed.rules.atoms trail.old }
         ensures { turns (turned result.turn trail.new blame.new) result.made ≡ turns_of (source_lent self.now.ground) (query_lent self.now) budget trail.old blame.old }
     {
-        let mut counters = fill::fill(&self.ground.listed, &trail.value);
+        let listed = &self.ground.listed;
+        let rules = listed.readable();
+        let mut counters = fill::fill(&rules, &listed.lists, &trail.value);
         let mut walk = Walk {
             query: self,
             blame,

@@ -45,7 +45,8 @@ impl<'a> Machine<'a> {
             lists: conditions.lent(),
         };
         let trail = Places::fresh();
-        let counters = fill::fill(&listed, &trail.value);
+        let rules = listed.readable();
+        let counters = fill::fill(&rules, &listed.lists, &trail.value);
         Machine {
             listed,
             wished: program.wished,

@@ -1,7 +1,12 @@
+use borrow.Author.Rules.{rules as needs}
+use Rattle.indexing.proofs.FillLaws.{filled_start, filled_next, filled_done}
 use Rattle.indexing.proofs.fill.fill.Goals as goal
 
-pub numbers-requires-clause-indexed : goal.numbers-requires-clause-indexed
-numbers-requires-clause-indexed c = rw c.readable-rules.ensures c.args.g.now.indexed
+pub loop-a-init : goal.loop-a-init
+loop-a-init c = search (filled_start, needs)
+
+pub loop-a-preserved : goal.loop-a-preserved
+loop-a-preserved c = search (filled_next, needs)
 
 pub returns : goal.returns
-returns c = rw c.readable-rules.ensures at c.numbers.ensures
+returns c = search (filled_done, needs)
