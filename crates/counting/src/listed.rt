@@ -21,6 +21,7 @@ impl<'a> Listed<'a> {
     ghost use Rattle.counting.specs.Views.{rules_read, bodies_weighed};
 
     // The rules, for a scan.
+    #[tactic(auto, using(search::proofs::Formed::readable))]
     pub fn readable(&self) -> ReadableRules<'a>
         ensures { rules_read result ≡ rules_lent self.now.rules }
     {
