@@ -64,7 +64,7 @@ impl Machine<'_> {
     ghost use Rattle.search.specs.Soft.{violated_of};
     ghost use Rattle.search.specs.Step.{stepped, step_of};
     ghost use Rattle.search.specs.Lent.{rules_lent};
-    ghost use Rattle.search_traces.specs.Asked.{wishes_of, SameQuery};
+    ghost use Rattle.search_traces.specs.Asked.{wishes_of, SameQuery, SameProgram};
 
     // One step. No atom is to be tried in first.
     pub fn step(&mut self) -> Tested
@@ -106,6 +106,7 @@ impl Machine<'_> {
     pub fn blame(&mut self, i: usize)
         ensures blamed { i < 8 → self.new.blamed ≡ set self.old.blamed i 1 }
         ensures trail { self.new.trail ≡ self.old.trail }
+        ensures same { SameProgram self.old self.new }
     {
         if i < 8 {
             self.blamed[i] = 1;

@@ -4,7 +4,7 @@ use Rattle.optimizer.specs.Lent.{source_lent}
 use Rattle.advancing.specs.Turn.{QueryTables, turns_of}
 use Rattle.advancing.specs.Ready.{ReadyQuery, GoodBlame}
 use Rattle.optimizer.proofs.Fronts.{assumed_end, assumed_inside, spots_end, wished_end, query_is}
-use Rattle.optimizer.proofs.ground.Ground.run_query.Goals as goal
+use Rattle.optimizer.proofs.ground.Ground.query_steps.Goals as goal
 
 pub slice_bounds-assumed-end : goal.slice_bounds-assumed-end
 slice_bounds-assumed-end c = assumed_end c.args.w.now.tables c.requires.sound_tables.formed c.args.w.now.stratum c.of-cores.ensures.softs c.of-cores.ensures.ends c.of-cores.ensures.members c.assumed-m.ensures
