@@ -2,7 +2,7 @@
 use mathlib.Core.Path.{◌≡◌, refl, sym, ap, ◌∙◌}
 use mathlib.Core.Bool.{Bool, true, false, ◌&&◌}
 use mathlib.Core.List.{List, [], ◌∷◌}
-use Prim.Native.Nat.{ℕ, zero, suc, ◌+◌, ◌-◌, ◌*◌, ◌^◌, ◌≤◌, ◌<◌}
+use Prim.Native.Nat.{ℕ, zero, suc, ◌+◌, ◌-◌, ◌^◌, ◌≤◌, ◌<◌}
 use native.Mathlib.Omega.{arith}
 use mir.Syntax.{w64}
 use mir.Val.{Fits}
@@ -24,7 +24,7 @@ use Rattle.search.specs.Scan.{Rules, rules, row_of, Readable, cond_at, condition
 use Rattle.search.specs.Weigh.{both_rest}
 use Rattle.search.proofs.ScanLaws.{off_stays}
 use Rattle.counting.specs.declared.counters.Marks.{Marks}
-use Rattle.counting.specs.Counters.{counters, marks, bodies}
+use Rattle.counting.specs.Counters.{counters, marks}
 use Rattle.counting.specs.Moves.{RowWeighs}
 use Rattle.counting.specs.Counts.{MarksRight, Tells, Told, NoneBelow, NoneIn, SpotSays, spotted_of, Spotted}
 use Rattle.counting.proofs.Sums.{sum_part, sum_none}

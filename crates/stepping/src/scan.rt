@@ -114,8 +114,8 @@ fn spotted(rest: Rest, r: usize) -> Found
     }
 }
 
-// The first condition of rule r, whose number is `want`, that is not true; without one the rule is broken.
-fn by_conditions(
+// What is found of rule r, whose number is `want`, with a weighted body.
+fn weighed(
     g: &ReadableRules<'_>,
     key: &[u16; 2048],
     want: u16,
@@ -124,37 +124,13 @@ fn by_conditions(
 ) -> Found
     requires told { Told (rules_read g.now) value.now key.now }
     requires sought { (r < length g.now.rows.now) × (want ≤ 1) × (get_or key.now r 0 ≡ want) }
-    requires normal { is_weighted (row_at g.now.rows.now r).body ≡ false }
+    requires weighted { is_weighted (row_at g.now.rows.now r).body ≡ true }
     ensures { SpotSays (rules_read g.now) value.now want result r }
 {
-    let row = g.rows[r];
-    let mid = row.body_first();
-    for k in usize::from(row.first)..mid + usize::from(row.literals) {
-        let rest = scan::left_at(g.pool, value, mid, k);
-        if !rest.is_all() {
-            return rest.noted();
-        }
-    }
-    Found::Broken(r)
-}
-
-// What is found of rule r, whose number is `want`.
-fn found_at(
-    g: &ReadableRules<'_>,
-    key: &[u16; 2048],
-    want: u16,
-    r: usize,
-    value: &[u8; 1025],
-) -> Found
-    requires told { Told (rules_read g.now) value.now key.now }
-    requires sought { (r < length g.now.rows.now) × (want ≤ 1) × (get_or key.now r 0 ≡ want) }
-    ensures { SpotSays (rules_read g.now) value.now want result r }
-{
-    let row = g.rows[r];
-    if !row.body.is_weighted() {
-        return by_conditions(g, key, want, r, value);
-    }
-    let rule = WeightedRule { pool: g.pool, row };
+    let rule = WeightedRule {
+        pool: g.pool,
+        row: g.rows[r],
+    };
     spotted(rule.rest(value), r)
 }
 
@@ -165,7 +141,7 @@ pub struct Spot {
     pub rule: usize,
 }
 
-// The scan for the first rule with the number `want`, from `start` on.
+// The scan for the first rule with the number `want`, from `start` on. It is left there: at the first of its conditions that is not true, or, where all are, with the rule broken.
 fn first_with(
     g: &ReadableRules<'_>,
     key: &[u16; 2048],
@@ -177,24 +153,35 @@ fn first_with(
     requires none_below { NoneBelow key.now (length g.now.rows.now) want start }
     ensures { Spotted (rules_read g.now) value.now key.now want result.found result.rule }
 {
+    let mut found = Found::Clear;
     let mut r = start;
     // Kept: a loop by hand, since it goes on by one rule or by sixteen.
-    while r < g.rows.len() {
+    'rules: while r < g.rows.len() {
         if may_skip(key, r, want) {
             r += 16;
-            continue;
+            continue 'rules;
         }
         if differs(key, r, want) {
             r += 1;
-            continue;
+            continue 'rules;
         }
-        let found = found_at(g, key, want, r, value);
-        return Spot { found, rule: r };
+        let row = g.rows[r];
+        if row.body.is_weighted() {
+            found = weighed(g, key, want, r, value);
+            break 'rules;
+        }
+        let mid = row.body_first();
+        for k in usize::from(row.first)..mid + usize::from(row.literals) {
+            let rest = scan::left_at(g.pool, value, mid, k);
+            if !rest.is_all() {
+                found = rest.noted();
+                break 'rules;
+            }
+        }
+        found = Found::Broken(r);
+        break 'rules;
     }
-    Spot {
-        found: Found::Clear,
-        rule: r,
-    }
+    Spot { found, rule: r }
 }
 
 // The scan of the rules under the values of a trail, by their numbers.

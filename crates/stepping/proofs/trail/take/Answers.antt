@@ -1,4 +1,3 @@
-use Rattle.std.proofs.Common.{◌-◌}
 use Rattle.counting.specs.Lent.{lists_lent}
 use Rattle.stepping.proofs.MoveLaws.{drop_done, unnamed}
 use Rattle.stepping.proofs.trail.take.Goals as goal
