@@ -5,16 +5,16 @@ use mir.Syntax.{w32}
 use mir.Val.{SFits}
 use mir.Facts.{to_z-of_z}
 use Rattle.search.proofs.SoftLaws.{passed_next, passed_here, passed_all}
-use Rattle.search.proofs.soft.Wishes.undecided.Goals as goal
+use Rattle.search.proofs.soft.undecided.Goals as goal
 
 pub returns-then-truth-eq0 : goal.returns-then-truth-eq0
 returns-then-truth-eq0 c =
-    let fits : SFits w32 (get_or c.args.self.now.literals.now c.loop-l.l-index (pos 0)) = search rules in
+    let fits : SFits w32 (get_or c.args.literals.now c.loop-l.l-index (pos 0)) = search rules in
     simp to_z-of_z (passed_here c.loop-l.invariant c.loop-l-test.true (simp to_z-of_z at c.truth.ensures) c.if-truth-eq0.true)
 
 pub loop-l-preserved : goal.loop-l-preserved
 loop-l-preserved c =
-    let fits : SFits w32 (get_or c.args.self.now.literals.now c.loop-l.l-index (pos 0)) = search rules in
+    let fits : SFits w32 (get_or c.args.literals.now c.loop-l.l-index (pos 0)) = search rules in
     passed_next c.loop-l.invariant c.loop-l-test.true (simp to_z-of_z at c.truth.ensures) c.if-truth-eq0.false
 
 pub returns : goal.returns
