@@ -162,7 +162,6 @@ def function(name, program):
 """ % (name, title, n, listed(pool), listed(rows), listed(wishes), listed(found))
 
 HEAD = """// Order 2: programs with weighted bodies, as `programs` has the others. Written by tests/traces.py.
-#![tactic(auto, using(crate::proofs::Checked::formed, crate::proofs::Checked::roomy, crate::proofs::Checked::wished), unfolding(asp::specs::Literal::occurs_among, asp::specs::Literal::one_signed, asp::specs::Tables::span, asp::specs::Tables::is_choice, asp::specs::Tables::is_weighted, asp::specs::Tables::is_mixed, counting::specs::Counts::sum_from))]
 
 use crate::program::{Program, row};
 use asp::rules::{BodyKind, HeadKind, Row, RuleTable};

@@ -13,6 +13,7 @@ use Rattle.asp.specs.Sets.{Set, Sub, In, set_of}
 use Rattle.asp.specs.Program.{Literal, LiteralIn, Weighed, Body, normal, weighted, BodyIn, Head, constraint, plain, choice, Rule, All, HeadIn, RuleIn}
 use Rattle.asp.specs.Stable.{all_hold, counts, body_holds, member, head_adds, constraint_fails}
 use Rattle.asp.specs.Tables.{span, named, literals_at, atoms_at, is_choice, is_weighted, pairs_at, row_pairs, bound_at, row_at, head_at, body_at, rule_at, Formed}
+use Rattle.asp.specs.declared.rules.BodyKind.{BodyKind}
 use Rattle.asp.specs.declared.rules.Row.{Row}
 use Rattle.asp.specs.Growth.{Grown, Chosen, KeptBy, PairsFormed, atoms_named, RowPairs, RowFormed, RulesFormed}
 use Rattle.asp.proofs.Stability.{body_mono, yes_or_left, yes_or_right}
@@ -56,6 +57,10 @@ pairs_literals pool gap i (suc k) h = (h.0, pairs_literals pool gap (i + 1) k h.
 module _ {pool : List ℤ} {row : Row} (w : RowFormed pool row) where
   pub body_small : is_weighted row.body ≡ false → All (LiteralIn 1024) (literals_at pool (row.first + row.heads) row.literals)
   body_small e = rw (body_normal pool row e) at w.atoms.1
+
+  -- the same of the kind and the places that the code has read
+  pub body_atoms_lem : {k : BodyKind} {f h b : ℕ} {x : Bool} → k ≡ row.body → x ≡ is_weighted k → x ≡ false → f ≡ row.first → h ≡ row.heads → b ≡ row.literals → All (LiteralIn 1024) (literals_at pool (f + h) b)
+  body_atoms_lem ek ex q ef eh eb = rw (ef, eh, eb) (body_small (rw (← ek, ← ex) q))
 
   weighed_small : is_weighted row.body ≡ true → All (LiteralIn 1024) (literals_at pool (row.first + row.heads) row.literals)
   weighed_small e = pairs_literals pool (row.literals + 1) (row.first + row.heads) row.literals (rw (body_weighted pool row e) at w.atoms.1)
@@ -201,6 +206,7 @@ module _ (M : Set) (pool : List ℤ) (row : Row) (xs : List ℕ) where
 
 pub formed_each : {n : ℕ} {pool : List ℤ} {rows : List Row} {count : ℕ} → Formed n pool rows count → RulesFormed pool rows count
 formed_each {n} {pool} {rows} {count} w = record {
+  long = w.long;
   each = λ r h. record {
     places = w.row r h;
     atoms = wide_rule (rule_at pool (row_at rows r)) (span_at (λ (s : ℕ). rule_at pool (row_at rows s)) (RuleIn n) 0 count w.atoms r (omega arith) (omega arith));

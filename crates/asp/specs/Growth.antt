@@ -58,4 +58,5 @@ pub record RowFormed (pool : List ℤ) (row : Row) : Type 0 where
 
 -- each of the first `count` is
 pub record RulesFormed (pool : List ℤ) (rows : List Row) (count : ℕ) : Type 0 where
+  pub long : count ≤ length rows
   pub each : (r : ℕ) → r < count → RowFormed pool (row_at rows r)

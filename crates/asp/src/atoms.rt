@@ -4,7 +4,7 @@ ghost use Rattle.asp.specs.Sets.{set_of};
 ghost use Rattle.asp.specs.Stable.{holds, holds_in, all_hold};
 ghost use Rattle.asp.specs.Program.{All, LiteralIn};
 
-use crate::literal::atom;
+use crate::literal;
 
 #[derive(Clone, Copy)]
 pub struct AtomSet<'a> {
@@ -18,7 +18,7 @@ impl AtomSet<'_> {
         requires { a ≤ 1024 }
         ensures { result ≡ set_of self.entry.bytes.now a }
     {
-        self.bytes[a] == 1
+        literal::has(self.bytes, a)
     }
 
     // Whether a literal holds in the set.
@@ -26,7 +26,7 @@ impl AtomSet<'_> {
         requires { nat_abs l ≤ 1024 }
         ensures { result ≡ holds (set_of self.entry.bytes.now) l }
     {
-        self.holds_in(self, l)
+        literal::holds(self.bytes, l)
     }
 
     // Whether a literal holds, a negated one looked up in this set and a positive one in `x`.
@@ -34,11 +34,7 @@ impl AtomSet<'_> {
         requires { nat_abs l ≤ 1024 }
         ensures { result ≡ holds_in (set_of self.entry.bytes.now) (set_of x.entry.bytes.now) l }
     {
-        if l < 0 {
-            !self.has(atom(l))
-        } else {
-            x.has(atom(l))
-        }
+        literal::holds_in(self.bytes, x.bytes, l)
     }
 
     // Whether all of the literals do.

@@ -1,5 +1,7 @@
 // Literals: a for the atom a, -a for its default negation.
-ghost use Rattle.std.specs.Prelude.{◌≡◌, ◌+◌, ◌≤◌, pos, neg_ℤ, nat_abs, length};
+ghost use Rattle.std.specs.Prelude.{◌≡◌, ◌+◌, ◌≤◌, ◌<◌, pos, neg_ℤ, nat_abs, length};
+ghost use Rattle.asp.specs.Sets.{set_of};
+ghost use Rattle.asp.specs.Stable.{holds, holds_in};
 ghost use Rattle.asp.specs.Tables.{literals_at};
 
 // Kept: literals and atoms are plain numbers with their bound in contracts, as texts and tables hold them; a type of their own would be put on and taken off at each place.
@@ -35,6 +37,37 @@ pub fn negative(a: usize) -> i32
     ensures { result ≡ neg_ℤ (pos a) }
 {
     complement(positive(a))
+}
+
+// Whether the atom is in the set that the bytes say: 1 for an atom in it.
+pub fn has(set: &[u8], a: usize) -> bool
+    requires { a < length set.now }
+    ensures { result ≡ set_of set.now a }
+{
+    set[a] == 1
+}
+
+// Whether a literal holds, a negated one looked up in `m` and a positive one in `x`.
+pub fn holds_in(m: &[u8], x: &[u8], l: i32) -> bool
+    requires bound { nat_abs l ≤ 1024 }
+    requires in_m { nat_abs l < length m.now }
+    requires in_x { nat_abs l < length x.now }
+    ensures { result ≡ holds_in (set_of m.now) (set_of x.now) l }
+{
+    if l < 0 {
+        !has(m, atom(l))
+    } else {
+        has(x, atom(l))
+    }
+}
+
+// Whether a literal holds in a set.
+pub fn holds(m: &[u8], l: i32) -> bool
+    requires bound { nat_abs l ≤ 1024 }
+    requires in_m { nat_abs l < length m.now }
+    ensures { result ≡ holds (set_of m.now) l }
+{
+    holds_in(m, m, l)
 }
 
 // The k literals of a pool from a place on.

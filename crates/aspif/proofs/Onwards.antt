@@ -127,21 +127,21 @@ module _ (s l : List ℕ) (p : Reading) (m : ℕ) where
 -- what line m and what follows it lead to is what the whole text leads to, from that line on
 module _ (s l : List ℕ) (p : Reading) (m k : ℕ) (q : Stored) (sound : Sound q) (text : q.counts.text ≤ k + length l + 1) where
   abbrev Onwards : Result (Option (Bor (List ℕ))) RefusedAt → Type 0
-  Onwards r = (seen_onward q m r ≡ lines m p (pieces s)) × OnwardAfter q (length s) k r
+  Onwards r = (seen_onward q m r ≡ lines m p (pieces s)) × OnwardAfter q m (length s) k r
 
   pub onward_leads : (t : LineTurn) (after : Option (Bor (List ℕ))) → pieces s ≡ l ∷ followed after → SplitLong (length s) (length l) after → turn_of (lists_of q) q.counts (Ok t) ≡ stepped_line l p
       → Onwards (onward_of t after q.counts m)
-  onward_leads t None cut long e = (on_cut s l p m (lists_of q) q.counts t cut e, tt)
+  onward_leads t None cut long e = (on_cut s l p m (lists_of q) q.counts t cut e, (omega arith, omega arith))
   onward_leads Last (Some r) cut long e = go (eqb (length r.now) 0) refl
     where
       go : (b : Bool) → b ≡ eqb (length r.now) 0 → Onwards (pick b (Ok None) (Err (record { refusal = Malformed; line = m + 1 })))
       go true h = (on_last s l p m r.now (reading_in q) cut true h e, sound)
-      go false h = (on_last s l p m r.now (reading_in q) cut false h e, tt)
+      go false h = (on_last s l p m r.now (reading_in q) cut false h e, (omega arith, omega arith))
   onward_leads Goes (Some r) cut long e = go (limits q.counts.rules q.counts.used q.counts.entries q.counts.levels q.counts.symbols q.counts.conditions q.counts.names) refl
     where
       go : (b : Bool) → limits q.counts.rules q.counts.used q.counts.entries q.counts.levels q.counts.symbols q.counts.conditions q.counts.names ≡ b → Onwards (pick b (Ok (Some r)) (Err (record { refusal = PastLimit; line = m })))
       go true h = (on_next s l p m r.now (reading_in q) cut e (sym (fits_of (lists_of q) q.counts sound) ∙ h), (sound, limits_within q.counts h, omega arith, omega arith))
-      go false h = (on_full s l p m r.now (reading_in q) cut e (sym (fits_of (lists_of q) q.counts sound) ∙ h), tt)
+      go false h = (on_full s l p m r.now (reading_in q) cut e (sym (fits_of (lists_of q) q.counts sound) ∙ h), (omega arith, omega arith))
 
 -- the lines before these are read, and line m is next
 pub record ReadUpTo (p₀ p : Stored) (s₀ s : List ℕ) (m : ℕ) : Type 0 where

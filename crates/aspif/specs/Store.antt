@@ -31,11 +31,11 @@ seen_onward p m (Ok None) = accepted (reading_in p).program (reading_in p).text
 seen_onward p m (Ok (Some s)) = lines (m + 1) (reading_in p) (pieces s.now)
 seen_onward p m (Err e) = refused (refusal_number e.refusal) e.line
 
--- after it, of the last n bytes of a text, before which k were stored
-abbrev pub OnwardAfter : Stored → ℕ → ℕ → Result (Option (Bor (List ℕ))) RefusedAt → Type 0
-OnwardAfter p n k (Ok None) = Sound p
-OnwardAfter p n k (Ok (Some s)) = Sound p × Within p.counts × (length s.now < n) × (p.counts.text + length s.now ≤ k + n)
-OnwardAfter p n k (Err e) = Unit {0}
+-- after it, of the last n bytes of a text, before which k were stored; what is refused is line m or the next
+abbrev pub OnwardAfter : Stored → ℕ → ℕ → ℕ → Result (Option (Bor (List ℕ))) RefusedAt → Type 0
+OnwardAfter p m n k (Ok None) = Sound p
+OnwardAfter p m n k (Ok (Some s)) = Sound p × Within p.counts × (length s.now < n) × (p.counts.text + length s.now ≤ k + n)
+OnwardAfter p m n k (Err e) = (m ≤ e.line) × (e.line ≤ m + 1)
 
 -- ---- the whole text
 

@@ -73,7 +73,7 @@ fn one_line<'a>(p: &mut Stored, rest: &'a [u8], line: usize) -> Result<Option<&'
     requires within { Within p.old.counts }
     requires room { (p.old.counts.text + length rest.now ≤ 65536) × (line ≤ 65538) }
     ensures answer { seen_onward p.new line result ≡ lines line (reading_in p.old) (pieces rest.now) }
-    ensures after { OnwardAfter p.new (length rest.now) p.old.counts.text result }
+    ensures after { OnwardAfter p.new line (length rest.now) p.old.counts.text result }
 {
     let (l, after) = split_line(rest);
     let turn = p
@@ -100,12 +100,19 @@ fn read_lines(p: &mut Stored, s: &[u8]) -> Result<(), RefusedAt>
     Ok(())
 }
 
-// Line 1.
+// The same bytes.
 #[tactic(auto, using(crate::proofs::Texts::same_pointwise))]
+pub fn is_same(a: &[u8], b: &[u8]) -> bool
+    ensures { result ≡ same_bytes a.now b.now }
+{
+    a == b
+}
+
+// Line 1.
 fn is_header(l: &[u8]) -> bool
     ensures { result ≡ same_bytes l.now header }
 {
-    l == HEADER
+    is_same(l, HEADER)
 }
 
 // The whole text into the tables.

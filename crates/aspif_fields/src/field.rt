@@ -39,7 +39,9 @@ impl<'a> Rest<'a> {
         ensures answer { read result self.new.bytes.now ≡ number lo hi self.old.bytes.now }
         ensures range { IfOk result (λ v. (lo ≤ v) × (v ≤ hi)) }
     {
-        let value = self.read_token().ok_or(Refusal::Malformed)?;
+        let Some(value) = self.read_token() else {
+            return Err(Refusal::Malformed);
+        };
         in_range(value, lo, hi)
     }
 
@@ -50,7 +52,9 @@ impl<'a> Rest<'a> {
         ensures answer { read result self.new.bytes.now ≡ natural lo hi self.old.bytes.now }
         ensures range { IfOk result (λ v. (lo ≤ v) × (v ≤ hi)) }
     {
-        let value = self.read_field_token().ok_or(Refusal::Malformed)?;
+        let Some(value) = self.read_field_token() else {
+            return Err(Refusal::Malformed);
+        };
         in_range(value, lo, hi)
     }
 
@@ -61,7 +65,9 @@ impl<'a> Rest<'a> {
         ensures answer { read result self.new.bytes.now ≡ field (signed hi) self.old.bytes.now }
         ensures range { IfOk result (λ z. nat_abs z ≤ hi) }
     {
-        let value = self.read_signed_token().ok_or(Refusal::Malformed)?;
+        let Some(value) = self.read_signed_token() else {
+            return Err(Refusal::Malformed);
+        };
         if hi < value.unsigned_abs() {
             return Err(Refusal::OutOfRange);
         }

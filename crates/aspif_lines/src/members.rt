@@ -38,6 +38,27 @@ pub fn read_members<F: Fn(&mut Rest) -> Result<i32, Refusal>>(
     Ok(top)
 }
 
+// The same of a head's atoms, or of the literals of a body or a condition.
+pub fn read_list(
+    rest: &mut Rest,
+    head: bool,
+    k: usize,
+    pool: &mut [i32],
+    used: usize,
+    start: usize,
+) -> Result<usize, Refusal>
+    requires { used + k ≤ length pool.old }
+    ensures answer { read_into result (literals_at pool.new used k) rest.new.bytes.now ≡ more (member_field head) k [] rest.old.bytes.now }
+    ensures top { IfOk result (λ t. t ≡ max start (highest nat_abs (literals_at pool.new used k))) }
+    ensures kept { Kept (pos 0) used pool.old pool.new }
+{
+    if head {
+        read_members(rest, |rest| rest.read_atom(), k, pool, used, start)
+    } else {
+        read_members(rest, |rest| rest.read_literal(), k, pool, used, start)
+    }
+}
+
 // "with none at the ends": after the last field the line is over.
 pub fn read_end(rest: &Rest) -> Result<(), Refusal>
     ensures { MatchResult result (λ u. nil rest.now.bytes.now ≡ true) (λ e. (nil rest.now.bytes.now ≡ false) × (refusal_number e ≡ 2)) }

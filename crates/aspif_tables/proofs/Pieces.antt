@@ -2,17 +2,17 @@
 use mathlib.Core.Bool.{Bool, true, false, not, cond}
 use mathlib.Core.Path.{◌≡◌, refl, ◌∙◌}
 use mathlib.Core.List.{List, [], ◌∷◌, ◌++◌}
-use Prim.Native.Nat.{ℕ, zero, suc, ◌+◌, ◌<◌, ◌≤◌}
+use Prim.Native.Nat.{ℕ, zero, suc, ◌+◌, ◌-◌, ◌<◌, ◌≤◌}
 use native.Mathlib.Omega.{arith}
-use lib.ListN.{length, get_or, take, drop, set, drop_of_length-le}
+use lib.ListN.{length, get_or, take, drop, set, drop_of_length-le, length-drop}
 use lib.Dec.{eqb, ltb}
 use borrow.Rule.Slice.PartMut.{put_mid}
 use native.Mathlib.Numerals.{add-one}
-use Rattle.std.proofs.Common.{Some, None, rules}
+use Rattle.std.proofs.Common.{Option, Some, None, unwrap_or, rules}
 use Rattle.std.proofs.lemmas.List.{places, length-take, get_or-take, get_or_append_left, get_or-append-add}
 use Rattle.std.specs.List.{position, position_or_len, prefix_len}
 use Rattle.asp.specs.Sets.{pick}
-use lib.Seq.{take-suc, take-length, drop-cons, get_or-set_same, get_or-set_other}
+use lib.Seq.{take-suc, take-length, drop-cons, drop-drop, get_or-set_same, get_or-set_other}
 use borrow.Author.Tests.{ltb-true, ltb-false}
 use Rattle.aspif_lines.specs.Text.{pieces, longer, line}
 use Rattle.asp.specs.Tables.{span}
@@ -39,6 +39,27 @@ prefix_inside p (b ∷ s) = go (p b) (prefix_len p s) (prefix_inside p s)
     go : (t : Bool) (k : ℕ) → k ≤ length s → cond t (1 + k) 0 ≤ suc (length s)
     go true k h = omega arith
     go false k h = omega arith
+
+-- where it ends, or the whole text does
+end_is : (s : List ℕ) → unwrap_or (position is_end s) (length s) ≡ position_or_len is_end s
+end_is s = go (ltb (position_or_len is_end s) (length s)) refl
+  where
+    go : (t : Bool) → ltb (position_or_len is_end s) (length s) ≡ t → unwrap_or (cond t (Some (position_or_len is_end s)) None) (length s) ≡ position_or_len is_end s
+    go true q = refl
+    go false q = omega (arith, ltb-false (position_or_len is_end s) (length s) q, prefix_inside (λ b. not (is_end b)) s)
+
+-- the same of the line from `at` on
+module _ (s : List ℕ) (at : ℕ) (r : Option ℕ) (k : ℕ) (h : at ≤ length s) (e : r ≡ position is_end (drop at s)) (q : k ≡ unwrap_or r (length s - at)) where
+  end_of : k ≡ position_or_len is_end (drop at s)
+  end_of = q ∙ rw (e, ← length-drop at s) (end_is (drop at s))
+
+  pub end_within : at + k ≤ length s
+  end_within = omega (arith, end_of, prefix_inside (λ b. not (is_end b)) (drop at s), length-drop at s)
+
+  pub end_first : pieces (drop at s) ≡ take (at + k - at) (drop at s) ∷ follow (drop (at + k) s)
+  end_first =
+      let a : at + k - at ≡ k = omega arith in
+      rw (a, ← drop-drop k at s, end_of) (pieces_first (drop at s))
 
 pub split_some : (s : List ℕ) (i : ℕ) → Some i ≡ position is_end s → pieces s ≡ take i s ∷ pieces (drop (i + 1) s)
 split_some s i e = go (ltb (position_or_len is_end s) (length s)) refl e

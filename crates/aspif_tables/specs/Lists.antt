@@ -65,7 +65,7 @@ pub record SymbolsSound (text : List ℕ) (conditions : List ℤ) (symbols : Lis
   pub size : sum condition_size (symbols_of text conditions symbols n) ≡ used
   pub length : sum name_size (symbols_of text conditions symbols n) ≡ names
 
--- ---- one statement into the tables: what is read, and the tables with it
+-- ---- one statement into the tables: what is read, and the tables with it; where it is refused, the other tables and the counts stay
 
 abbrev pub rule_counts : Counts → ℕ → ℕ → ℕ → ℕ → Counts
 rule_counts n used filled top end =
@@ -83,7 +83,7 @@ pub record RuleAdded (pool : List ℤ) (rules : List Row) (pool' : List ℤ) (ru
 
 abbrev pub AddedRule : Stored → Stored → ℕ → List ℕ → Result (Unit {0}) Refusal → Type 0
 AddedRule p q end l (Ok u) = RuleAdded p.pool p.rules q.pool q.rules p.counts end l q.counts × (q ≡ record p { pool = q.pool; rules = q.rules; counts = q.counts })
-AddedRule p q end l (Err e) = rule_line l ≡ bad (refusal_number e)
+AddedRule p q end l (Err e) = (rule_line l ≡ bad (refusal_number e)) × (q ≡ record p { pool = q.pool; rules = q.rules })
 
 abbrev pub minimise_counts : Counts → ℕ → ℕ → ℕ → ℕ → Counts
 minimise_counts n entries levels top end =
@@ -103,7 +103,7 @@ abbrev pub AddedMinimise : Stored → Stored → ℕ → List ℕ → Result (Un
 AddedMinimise p q end l (Ok u) =
     MinimiseAdded p.entries p.levels q.entries q.levels p.counts end l q.counts
     × (q ≡ record p { entries = q.entries; levels = q.levels; counts = q.counts })
-AddedMinimise p q end l (Err e) = minimise_line l ≡ bad (refusal_number e)
+AddedMinimise p q end l (Err e) = (minimise_line l ≡ bad (refusal_number e)) × (q ≡ record p { entries = q.entries; levels = q.levels })
 
 abbrev pub symbol_counts : Counts → ℕ → ℕ → ℕ → ℕ → Counts
 symbol_counts n conditions names top end =
@@ -123,7 +123,7 @@ abbrev pub AddedSymbol : Stored → Stored → ℕ → List ℕ → Result (Unit
 AddedSymbol p q end l (Ok u) =
     SymbolAdded p.text p.conditions p.symbols q.conditions q.symbols p.counts end l q.counts
     × (q ≡ record p { conditions = q.conditions; symbols = q.symbols; counts = q.counts })
-AddedSymbol p q end l (Err e) = symbol_line l ≡ bad (refusal_number e)
+AddedSymbol p q end l (Err e) = (symbol_line l ≡ bad (refusal_number e)) × (q ≡ record p { conditions = q.conditions; symbols = q.symbols })
 
 abbrev pub final_counts : Counts → ℕ → Counts
 final_counts n end =

@@ -1,5 +1,6 @@
 // One line into the tables.
-ghost use Rattle.std.specs.Prelude.{◌≡◌, ◌∷◌, ◌+◌, ◌≤◌, ◌==◌, length, position};
+ghost use Rattle.std.specs.Prelude.{◌≡◌, ◌∷◌, ◌+◌, ◌-◌, ◌≤◌, ◌==◌, IfSome, OnErr, length, take, drop, position};
+ghost use Rattle.aspif_lines.specs.Seen.{follow};
 ghost use Rattle.aspif_lines.specs.Text.{pieces, stepped_line};
 ghost use Rattle.aspif_tables.specs.Lists.{followed, Appended, SplitLong, Sound, Within, reading_in, seen_turn, TurnAfter};
 
@@ -10,11 +11,22 @@ use aspif_lines::members::read_end;
 
 const MOST_KIND: usize = 10; // document 01: "the kind, 0 to 10"
 
-// Where the line's byte 10 stands.
-fn line_end(s: &[u8]) -> Option<usize>
+// The place of the next byte 10.
+fn newline(s: &[u8]) -> Option<usize>
     ensures { result ≡ position (λ b. b == 10) s.now }
 {
     s.iter().position(|b| *b == b'\n')
+}
+
+// Where the line from `at` on ends: at the next byte 10, or where the text does.
+#[tactic(auto, using(crate::proofs::Pieces::end_within))]
+pub fn line_end(s: &[u8], at: usize) -> usize
+    requires { at ≤ length s.now }
+    ensures after { at ≤ result }
+    ensures within { result ≤ length s.now }
+    ensures first { pieces (drop at s.now) ≡ take (result - at) (drop at s.now) ∷ follow (drop result s.now) }
+{
+    at + newline(&s[at..]).unwrap_or(s.len() - at)
 }
 
 // The line that comes next, and what follows its byte 10; nothing follows without it.
@@ -22,8 +34,10 @@ fn line_end(s: &[u8]) -> Option<usize>
 pub fn split_line(s: &[u8]) -> (&[u8], Option<&[u8]>)
     ensures split { pieces s.now ≡ result.0.now ∷ followed result.1 }
     ensures long { SplitLong (length s.now) (length result.0.now) result.1 }
+    ensures front { result.0.now ≡ take (length result.0.now) s.now }
+    ensures after { IfSome result.1 (λ r. r.now ≡ drop (length result.0.now + 1) s.now) }
 {
-    match line_end(s) {
+    match newline(s) {
         Some(i) => (&s[..i], Some(&s[i + 1..])),
         None => (s, None),
     }
@@ -56,6 +70,7 @@ impl Stored {
         requires room { self.old.counts.text + length s.now ≤ 65536 }
         ensures answer { seen_turn self.new result ≡ stepped_line s.now (reading_in self.old) }
         ensures after { TurnAfter self.new (self.old.counts.text + length s.now + 1) result }
+        ensures stays { OnErr result (self.new.counts ≡ self.old.counts) }
     {
         let end = append_line(&mut self.text, self.counts.text, s);
         let mut rest = Rest { bytes: s };

@@ -5,6 +5,7 @@ ghost use Rattle.asp.specs.Penalty.{penalties};
 ghost use Rattle.asp.specs.Tables.{entry_at};
 ghost use Rattle.cores.specs.Tables.{empty_tables, weighs_on, opened_tables, held_in};
 
+use crate::recording;
 use crate::soft::Soft;
 use crate::softs::put_soft;
 use asp::entries::Entry;
@@ -69,7 +70,7 @@ impl LevelTables {
         requires { self.now.cores ≤ 4096 }
         ensures { result ≡ held_in self.now }
     {
-        usize::from(self.ends[self.cores])
+        recording::held(&self.ends, self.cores)
     }
 }
 

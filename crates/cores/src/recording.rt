@@ -1,5 +1,5 @@
 // Recording a core.
-ghost use Rattle.std.specs.Prelude.{◌≡◌, ◌+◌, ◌-◌, ◌<◌, ◌≤◌, length};
+ghost use Rattle.std.specs.Prelude.{◌≡◌, ◌+◌, ◌-◌, ◌<◌, ◌≤◌, length, get_or};
 ghost use Rattle.std.proofs.lemmas.List.Edits.{sets};
 ghost use Rattle.asp.specs.Program.{All};
 ghost use Rattle.cores.specs.Level.{core_fits};
@@ -45,6 +45,24 @@ fn append(members: &mut [u16], k: usize, more: &[u16])
     members[k..k + more.len()].copy_from_slice(more);
 }
 
+// Whether a core of n members passes neither limit, at `count` soft literals and `held` members.
+pub fn has_room(count: usize, held: usize, n: usize) -> bool
+    requires count_bound { count ≤ 4096 }
+    requires held_bound { held ≤ 4096 }
+    requires le_n { (1 ≤ n) × (n ≤ 4096) }
+    ensures { result ≡ core_fits count held n }
+{
+    count + (n - 1) <= 4096 && held + n <= 4096
+}
+
+// How many members the cores have, by where each ends.
+pub fn held(ends: &[u16; 4097], cores: usize) -> usize
+    requires { cores ≤ 4096 }
+    ensures { result ≡ get_or ends.now cores 0 }
+{
+    usize::from(ends[cores])
+}
+
 impl LevelTables {
     // Whether a core of n members passes neither limit.
     pub fn has_room(&self, n: usize) -> bool
@@ -54,7 +72,7 @@ impl LevelTables {
         requires le_n { (1 ≤ n) × (n ≤ 4096) }
         ensures { result ≡ core_fits self.now.count (held_in self.now) n }
     {
-        self.count + (n - 1) <= 4096 && self.held() + n <= 4096
+        has_room(self.count, self.held(), n)
     }
 
     // A core of the places in `core` is recorded at stratum s.

@@ -3,7 +3,7 @@
 //   2 PRIORITY   opens the level: prints its soft literals, the first stratum
 //   3 S N PLACES   records a core at stratum S: prints 1 if full, the lower bound, soft literals, members
 //   4 N ATOMS   a set: prints the remaining weights of what it violates
-//   5 S   prints the next stratum below S, how many are assumed at S, and how many of them are an entry's
+//   5 S   prints the next stratum below S, how many are assumed at S, and how many of them are an entry's; S above 1,000,001 counts as that
 #![tactic(auto)]
 
 ghost use Rattle.std.specs.Prelude.{◌≤◌, length};
@@ -16,6 +16,9 @@ mod measure;
 mod numbers;
 mod strata;
 mod world;
+
+// Above every weight of an entry, so that nothing is assumed at it as a level begins.
+const ABOVE_ALL: u32 = 1_000_001;
 
 // One statement of the script.
 fn obey(rt: &impl Print, w: &mut World, op: usize, script: &mut Numbers) -> io::Result<()>
@@ -31,7 +34,7 @@ fn obey(rt: &impl Print, w: &mut World, op: usize, script: &mut Numbers) -> io::
         2 => w.open_level(rt, a),
         3 => w.keep_core(rt, stratum, script),
         4 => w.weigh_set(rt, a, script),
-        5 => rt.println(w.strata(stratum)),
+        5 => rt.println(w.strata(stratum.min(ABOVE_ALL))),
         _ => Ok(()),
     }
 }

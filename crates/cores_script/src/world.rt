@@ -14,7 +14,7 @@ use cores::level::LevelTables;
 use std::io;
 
 // Kept: an array with a count beside it, and the tables of a level, since no program allocates.
-#[derive(Drop)]
+#[derive(Clone, Copy)]
 pub struct World {
     entries: [Entry; 512],
     count: usize,

@@ -25,9 +25,9 @@ use Rattle.asp.specs.declared.rules.RuleTable.{RuleTable}
 use Rattle.search.specs.Scan.{Readable}
 use Rattle.search.specs.Lent.{rules_lent}
 use Rattle.counting.specs.declared.index.Index.{Index}
-use Rattle.counting.specs.Counters.{rest_number, weigh_number, open_at}
+use Rattle.counting.specs.Counters.{Bodies, rest_number, weigh_number, open_at}
 use Rattle.counting.specs.Counts.{Indexed}
-use Rattle.counting.specs.Moves.{RowWeighs, ListReadable}
+use Rattle.counting.specs.Moves.{RowWeighs, ListReadable, Weighable}
 use Rattle.counting.specs.Lent.{bodies_lent}
 use Rattle.counting.proofs.Weighing.{indexed_weighable}
 
@@ -126,6 +126,10 @@ module _ {v : List ℕ} {ls ws : List ℤ} {most i : ℕ} (w : PairsFormed ls ws
   unfolding open_at
   open_more h eo = record { rest = let r = rw (pairs_more ls ws i h w.even) at c.rest in omega (arith, r, eo) }
 
+  -- the same, by what a body reads of the pair
+  pub open_next_lem : i < length ls → {x w o : ℕ} → x ≡ truth_at v (get_or ls i (pos 0)) → w ≡ nat_abs (get_or ws i (pos 0)) → o ≡ max most (pick (eqb x 0) w 0) → OpenLeft v ls ws o (i + 1)
+  open_next_lem h ex ew eo = open_more h (rw (ex, ew) at eo)
+
   pub open_done : length ls ≤ i → most ≡ open_at v (pairs_of ls ws)
   unfolding open_at
   open_done h = let r = rw (pairs_none ls ws i h) at c.rest in omega (arith, r)
@@ -141,13 +145,17 @@ met_next v {ls} {ws} {met} {i} f c h l em =
 
 -- ---- the list of an atom
 
+module _ (b : Bodies) (o : Index) (w : Weighable b o) where
+  pub list_weighable : {a x y : ℕ} → a ≤ 1024 → x ≡ get_or o.starts (2050 + a) 0 → y ≡ get_or o.starts (2050 + a + 1) 0 → ListReadable b o.rules x y
+  list_weighable {a} {x} {y} h ex ey = record {
+    inside = rw ey (o.shape.inside (2050 + a + 1));
+    small = o.shape.small;
+    each = λ e p q. w.each a e h (omega arith) (omega arith);
+  }
+
 module _ (rules : RuleTable) {o : Index} (i : Indexed (rules_lent rules) o) where
   pub list_readable : Readable (rules_lent rules) → {a x y : ℕ} → a ≤ 1024 → x ≡ get_or o.starts (2050 + a) 0 → y ≡ get_or o.starts (2050 + a + 1) 0 → ListReadable (bodies_lent rules) o.rules x y
-  list_readable f {a} {x} {y} h ex ey = record {
-    inside = rw ey (i.shaped.inside (2050 + a + 1));
-    small = i.shaped.small;
-    each = λ e p q. (indexed_weighable i f).each a e h (omega arith) (omega arith);
-  }
+  list_readable f h ex ey = list_weighable (bodies_lent rules) o (indexed_weighable i f) h ex ey
 
 pub named_is : {a b x y : ℕ} → x ≡ a → y ≡ b → ltb x y ≡ ltb a b
 named_is p q = rw (p, q)

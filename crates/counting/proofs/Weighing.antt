@@ -1,14 +1,18 @@
 -- The rules that name an atom: their rows can be read. Assumes nothing.
 use mathlib.Core.Path.{◌≡◌, refl}
 use mathlib.Core.Bool.{true}
+use mathlib.Core.List.{List}
 use Prim.Native.Nat.{ℕ, ◌+◌, ◌≤◌, ◌<◌}
 use native.Mathlib.Omega.{arith}
 use lib.Dec.{eqb}
-use lib.ListN.{get_or}
+use lib.IntN.{ℤ}
+use lib.ListN.{length, get_or}
 use borrow.Author.Tests.{eq-eqb}
 use Rattle.asp.specs.Sets.{ind}
-use Rattle.asp.specs.Tables.{is_weighted}
-use Rattle.search.specs.Scan.{Rules, row_of, Readable}
+use Rattle.asp.specs.declared.rules.Row.{Row}
+use Rattle.asp.specs.Tables.{is_weighted, Formed}
+use Rattle.search.specs.Scan.{Rules, rules, row_of, Readable}
+use Rattle.search.proofs.Formed.{readable}
 use Rattle.counting.specs.declared.index.Index.{Index}
 use Rattle.counting.specs.Counters.{bodies, first, list_length}
 use Rattle.counting.specs.Moves.{Weighable}
@@ -32,3 +36,6 @@ indexed_weighable {g} {o} i f = record {
     some a e p q z =
         let y = sum_part (λ x. ind (eqb (get_or o.rules x 0) (get_or o.rules e 0))) e (first o (2050 + a)) (list_length o (2050 + a)) p q in
         omega (arith, rw (eq-eqb (get_or o.rules e 0) (get_or o.rules e 0) refl) at y)
+
+pub formed_weighable : {n : ℕ} {pool : List ℤ} {rows : List Row} {o : Index} → Formed n pool rows (length rows) → Indexed (rules pool rows (length rows)) o → {w : List Row} → w ≡ rows → Weighable (bodies pool w) o
+formed_weighable f i e = rw e (indexed_weighable i (readable _ _ _ _ f))

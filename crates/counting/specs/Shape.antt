@@ -3,6 +3,5 @@ use Rattle.std.specs.Prelude.{◌≡◌, List, ℕ, ◌≤◌, ◌<◌, length, 
 
 pub record Shape (starts rules : List ℕ) : Type 0 where
   pub long : length starts ≡ 3076
-  pub wide : length rules ≡ 16385
   pub inside : (i : ℕ) → get_or starts i 0 ≤ length rules
   pub small : (e : ℕ) → get_or rules e 0 < 2048

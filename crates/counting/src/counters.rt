@@ -1,8 +1,9 @@
 // A number for each rule: 1 for each undecided condition, 2 for each false one, and 2 more for a choice rule. So 0 is a broken rule, and 1 one with a single literal left.
 ghost use Rattle.std.specs.Prelude.{◌≡◌, ℕ, ◌-◌, ◌≤◌, ◌<◌, length, get_or};
 ghost use Rattle.counting.specs.Counters.{first, list_length, plus_one, lower_marks, raise_marks, freed_marks, lower_at, raise_at, lower_from, raise_from, shift_of, decide_of, release_of};
+ghost use Rattle.counting.specs.Lent.{lists_lent};
 
-use crate::index::Index;
+use crate::index::Lists;
 
 // Where the searches start: how many rules are broken; a rule below which all numbers are 2 or more; one below which none is 0; and an atom below which all are decided.
 #[derive(Clone, Copy, PartialEq, Eq, Debug)]
@@ -126,24 +127,24 @@ impl Counters {
     }
 
     // Those of list i.
-    pub fn raise_list(&mut self, o: &Index, i: usize)
+    pub fn raise_list(&mut self, o: &Lists<'_>, i: usize)
         requires { i < 2050 }
-        ensures { self.new ≡ raise_from o.now.rules (first o.now i) (list_length o.now i) self.old }
+        ensures { self.new ≡ raise_from o.now.rules.now (first (lists_lent o.now) i) (list_length (lists_lent o.now) i) self.old }
     {
         self.raise_all(
-            &o.rules,
+            o.rules,
             usize::from(o.starts[i]),
             usize::from(o.starts[i + 1]),
         );
     }
 
     // The literal of list `down` comes nearer to true, that of list `up` to false.
-    fn shift(&mut self, o: &Index, down: usize, up: usize)
+    fn shift(&mut self, o: &Lists<'_>, down: usize, up: usize)
         requires { (down < 2050) × (up < 2050) }
-        ensures { self.new ≡ shift_of o.now down up self.old }
+        ensures { self.new ≡ shift_of (lists_lent o.now) down up self.old }
     {
         self.lower_all(
-            &o.rules,
+            o.rules,
             usize::from(o.starts[down]),
             usize::from(o.starts[down + 1]),
         );
@@ -151,9 +152,9 @@ impl Counters {
     }
 
     // An undecided atom gets the value s.
-    fn decide(&mut self, o: &Index, a: usize, s: u8)
+    fn decide(&mut self, o: &Lists<'_>, a: usize, s: u8)
         requires { a ≤ 1024 }
-        ensures { self.new ≡ decide_of o.now a s self.old }
+        ensures { self.new ≡ decide_of (lists_lent o.now) a s self.old }
     {
         if s == 1 {
             self.shift(o, a * 2, a * 2 + 1);
@@ -163,9 +164,9 @@ impl Counters {
     }
 
     // An atom that had the value y becomes undecided.
-    fn release(&mut self, o: &Index, a: usize, y: u8)
+    fn release(&mut self, o: &Lists<'_>, a: usize, y: u8)
         requires { a ≤ 1024 }
-        ensures { self.new ≡ release_of o.now a y self.old }
+        ensures { self.new ≡ release_of (lists_lent o.now) a y self.old }
     {
         if y == 0 {
             return;
@@ -179,17 +180,17 @@ impl Counters {
     }
 
     // An atom that has the value at a, of those lent, becomes undecided.
-    pub fn forget(&mut self, o: &Index, value: &[u8; 1025], a: usize)
+    pub fn forget(&mut self, o: &Lists<'_>, value: &[u8; 1025], a: usize)
         requires { a ≤ 1024 }
-        ensures { self.new ≡ release_of o.now a (get_or value.now a 0) self.old }
+        ensures { self.new ≡ release_of (lists_lent o.now) a (get_or value.now a 0) self.old }
     {
         self.release(o, a, value[a]);
     }
 
     // An atom that has the value at a, of those lent, gets the value s.
-    pub fn assign(&mut self, o: &Index, value: &[u8; 1025], a: usize, s: u8)
+    pub fn assign(&mut self, o: &Lists<'_>, value: &[u8; 1025], a: usize, s: u8)
         requires { a ≤ 1024 }
-        ensures { self.new ≡ decide_of o.now a s (release_of o.now a (get_or value.now a 0) self.old) }
+        ensures { self.new ≡ decide_of (lists_lent o.now) a s (release_of (lists_lent o.now) a (get_or value.now a 0) self.old) }
     {
         self.forget(o, value, a);
         self.decide(o, a, s);

@@ -9,3 +9,26 @@ pub struct Index {
     pub rules: [u16; 16385],
     pub ghost shape: { Shape starts rules },
 }
+
+// Such lists, lent, with as many places as there are.
+#[derive(Clone, Copy)]
+pub struct Lists<'a> {
+    pub starts: &'a [u16],
+    pub rules: &'a [u16],
+    pub ghost shape: { Shape starts.now rules.now },
+}
+
+impl Index {
+    ghost use Rattle.std.specs.Prelude.{◌≡◌};
+    ghost use Rattle.counting.specs.Lent.{lists_lent};
+
+    // Its lists.
+    pub fn lent(&self) -> Lists<'_>
+        ensures { lists_lent result ≡ self.now }
+    {
+        Lists {
+            starts: &self.starts,
+            rules: &self.rules,
+        }
+    }
+}

@@ -7,12 +7,12 @@ ghost use Rattle.search.specs.Scan.{head_rest, weighted_rest};
 ghost use Rattle.search.specs.Weigh.{met_at, body_rest, both_rest};
 ghost use Rattle.counting.specs.Moves.{RowWeighs, RowReadable, ListReadable};
 ghost use Rattle.counting.specs.Counters.{least, rest_number, weigh_number, broken_after, put_marks, put_at, renew_at, open_at, weigh_from, weigh_of};
-ghost use Rattle.counting.specs.Lent.{bodies_lent};
+ghost use Rattle.counting.specs.Lent.{lists_lent};
+ghost use Rattle.counting.specs.Views.{bodies_weighed};
 
 use crate::counters;
 use crate::counters::{Counters, Marks};
-use crate::index::Index;
-use crate::listed::Listed;
+use crate::views::WeighableRules;
 use asp::rules::{HeadKind, Pairs, Row};
 use bodies::weigh;
 use search::scan::Rest;
@@ -217,24 +217,24 @@ fn renew_at(t: &mut Counters, r: usize, k: u16)
 }
 
 // Whether some rule with a weighted body names the atom a.
-pub fn is_named(o: &Index, a: usize) -> bool
-    requires { a ≤ 1024 }
-    ensures { result ≡ ltb (get_or o.now.starts (2050 + a) 0) (get_or o.now.starts (2050 + a + 1) 0) }
+pub fn is_named(starts: &[u16], a: usize) -> bool
+    requires { (a ≤ 1024) × (length starts.now ≡ 3076) }
+    ensures { result ≡ ltb (get_or starts.now (2050 + a) 0) (get_or starts.now (2050 + a + 1) 0) }
 {
-    o.starts[2050 + a] < o.starts[2050 + a + 1]
+    starts[2050 + a] < starts[2050 + a + 1]
 }
 
-impl Listed<'_> {
+impl WeighableRules<'_> {
     // The rules at the places `from` to `end` get their numbers.
     fn weigh_all(&self, from: usize, end: usize, value: &[u8; 1025], t: &mut Counters)
-        requires { ListReadable (bodies_lent self.now.rules) self.now.lists.now.rules from end }
-        ensures { t.new ≡ weigh_from (bodies_lent self.now.rules) value.now self.now.lists.now.rules from (end - from) t.old }
+        requires { ListReadable (bodies_weighed self.now) self.now.lists.rules.now from end }
+        ensures { t.new ≡ weigh_from (bodies_weighed self.now) value.now self.now.lists.rules.now from (end - from) t.old }
     {
         for e in from..end {
             let r = usize::from(self.lists.rules[e]);
             let rule = WeightedRule {
-                pool: self.rules.pool,
-                row: self.rules.rows[r],
+                pool: self.pool,
+                row: self.rows[r],
             };
             renew_at(t, r, rule.number(value));
         }
@@ -243,7 +243,7 @@ impl Listed<'_> {
     // The value of the atom a has changed: the rules that name it get their numbers.
     pub fn reweigh(&self, a: usize, value: &[u8; 1025], t: &mut Counters)
         requires { a ≤ 1024 }
-        ensures { t.new ≡ weigh_of (bodies_lent self.now.rules) self.now.lists.now a value.now t.old }
+        ensures { t.new ≡ weigh_of (bodies_weighed self.now) (lists_lent self.now.lists) a value.now t.old }
     {
         let from = usize::from(self.lists.starts[2050 + a]);
         let end = usize::from(self.lists.starts[2050 + a + 1]);

@@ -54,8 +54,9 @@ fn is_small(service: &Service) -> bool {
     }
 }
 
-// One line for each advance until the end, 10,000 at most.
-fn trace(rt: &impl Print, service: &mut Service) -> io::Result<()> {
+// One line for each advance until the end, 10,000 at most. It advances a copy, so that the run to the end is one from the start.
+fn trace(rt: &impl Print, start: &Service) -> io::Result<()> {
+    let mut service = *start;
     for _ in 0..10000 {
         let status = service.advance();
         state(rt, &service.look())?;

@@ -134,8 +134,11 @@ unfolding better_of
 better_keeps P L w v h k =
     elim (cheaper lt_z (take (many L) (costs_of L v)) (take (many L) w.uppers)) as (λ b. P (pick b (with_best L w v) w)) [ true ↦ h | false ↦ k ]
 
+pub level_of_lem : {u x : Work} → u ≡ x → {n : ℕ} → x.level < n → u.level < n
+level_of_lem e {n} h = subst (λ (z : Work). z.level < n) (sym e) h
+
 pub better_level : (L : Levels) (w : Work) (v : List ℕ) {n : ℕ} → w.level < n → {b : Work} → b ≡ better_of L w v → b.level < n
-better_level L w v {n} h e = subst (λ (u : Work). u.level < n) (sym e) (better_keeps (λ b. b.level < n) L w v h h)
+better_level L w v {n} h e = level_of_lem e (better_keeps (λ b. b.level < n) L w v h h)
 
 pub better_tables : (L : Levels) (w : Work) (v : List ℕ) → FormedTables w.tables → {b : Work} → b ≡ better_of L w v → FormedTables b.tables
 better_tables L w v h e = subst (λ (u : Work). FormedTables u.tables) (sym e) (better_keeps (λ b. FormedTables b.tables) L w v h h)

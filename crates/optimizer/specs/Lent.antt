@@ -1,6 +1,7 @@
 -- What a lent program and a lent query mean. Assumes nothing: these are definitions.
 use Rattle.std.specs.Prelude.{List, ℕ}
 use Rattle.counting.specs.declared.counters.Counters.{Counters}
+use Rattle.counting.specs.Lent.{lists_lent}
 use Rattle.search.specs.Lent.{rules_lent}
 use Rattle.indexing.specs.Leaf.{Leaf}
 use Rattle.judging.specs.Lent.{tables_of}
@@ -18,4 +19,4 @@ query_lent q = query_tables q.level q.lowers.now q.wished.now q.spots.now q.assu
 
 -- the numbers are those of the values v, which are full and break no rule
 abbrev pub LeafFor : Ground → List ℕ → Counters → Type 0
-LeafFor g v x = Leaf (rules_lent g.listed.rules) g.listed.rules.atoms g.listed.lists.now g.heads.now v x
+LeafFor g v x = Leaf (rules_lent g.listed.rules) g.listed.rules.atoms (lists_lent g.listed.lists) g.heads.now v x

@@ -1,17 +1,25 @@
 // What a query has blamed: places of soft literals, newest first, at the end of a table; and a flag for each assumed soft literal of an entry.
-ghost use Rattle.std.specs.Prelude.{◌≡◌, false, ◌-◌, ◌≤◌, ◌<◌, length, get_or, set, eqb};
+ghost use Rattle.std.specs.Prelude.{◌≡◌, false, ◌-◌, ◌≤◌, ◌<◌, length, get_or, set, drop, eqb};
 ghost use Rattle.asp.specs.Sets.{pick};
 ghost use Rattle.asp.specs.Stable.{member};
 ghost use Rattle.advancing.specs.Turn.{blame_tables, blamed_of, blame_entry, blame_place, flagged};
 
 use advancing::state::Blame;
 
-// What is blamed, newest first.
+// What is blamed, newest first: the places of a table from `from` on.
+pub fn blamed_from(core: &[u16], from: usize) -> &[u16]
+    requires { from ≤ length core.now }
+    ensures { result.now ≡ drop from core.now }
+{
+    &core[from..]
+}
+
+// The same of what a query has blamed.
 pub fn blamed(b: &Blame) -> &[u16]
     requires { b.now.from ≤ 4096 }
     ensures { result.now ≡ blamed_of b.now }
 {
-    &b.core[b.from..]
+    blamed_from(&b.core, b.from)
 }
 
 // One more place, before the others.

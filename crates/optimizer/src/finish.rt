@@ -3,7 +3,7 @@
 ghost use Rattle.std.specs.Prelude.{◌≡◌, ◌+◌, ◌-◌, ◌≤◌, ◌<◌, pos, length, get_or};
 ghost use Rattle.asp.specs.Literal.{same_ℤ};
 ghost use Rattle.cores.specs.Level.{under};
-ghost use Rattle.cores.specs.Tables.{level_of, FormedTables, tried_tables};
+ghost use Rattle.cores.specs.Tables.{level_of, tried_tables};
 ghost use Rattle.advancing.specs.Source.{levels_lent};
 ghost use Rattle.advancing.specs.Ready.{ReadyCore};
 ghost use Rattle.advancing.specs.Finish.{placed, next_from, begun_at, open_from, settle_of, costs_of, with_best, better_of, fallen, tried_work, finish_first, finish_level, finish_of};
@@ -13,6 +13,7 @@ use advancing::state::{Phase, Turn, Work};
 use asp::atoms::AtomSet;
 use asp::cost::Objective;
 use cores::level::LevelTables;
+use cores::soft::Soft;
 
 // Whether the bounds on a level are equal.
 fn bounds_meet(w: &Work, i: usize) -> bool
@@ -35,12 +36,13 @@ fn next_level(w: &Work, j: usize, k: usize) -> usize
     k
 }
 
-// The greatest remaining weight below s; 0 if there is none.
+// The greatest remaining weight below s; 0 if there is none. It asks nothing of the tables: a count past the end is of all.
 fn next_stratum(t: &LevelTables, s: u32) -> u32
-    requires { FormedTables t.now }
     ensures { result ≡ under s (level_of t.now).rests }
 {
-    judging::query::next_stratum(t.soft_literals(), s)
+    let softs: &[Soft] = &t.softs;
+    let count = t.count.min(softs.len());
+    judging::query::next_stratum(&softs[..count], s)
 }
 
 impl Limited<'_> {
@@ -122,7 +124,6 @@ impl Limited<'_> {
     // or the tables are full.
     fn finish_level(&self, w: &mut Work, core: &[u16], value: &[u8; 1025], turn: Turn) -> Phase
         requires level { w.old.level < length self.now.objective.levels.now }
-        requires tables { FormedTables w.old.tables }
         requires core { turn ≡ Turn.Without → ReadyCore w.old core.now }
         ensures { placed result w.new ≡ finish_level (levels_lent self.now.objective) w.old value.now core.now turn }
     {
@@ -153,7 +154,6 @@ impl Limited<'_> {
         turn: Turn,
     ) -> Phase
         requires level { phase ≡ Phase.Level → w.old.level < length self.now.objective.levels.now }
-        requires tables { FormedTables w.old.tables }
         requires core { phase ≡ Phase.Level → turn ≡ Turn.Without → ReadyCore w.old core.now }
         ensures { placed result w.new ≡ finish_of (levels_lent self.now.objective) phase w.old value.now core.now turn }
     {

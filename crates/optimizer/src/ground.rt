@@ -1,4 +1,5 @@
 // A ground program as an optimization reads it, lent: its rules and levels, and what is prepared for them.
+ghost use Rattle.counting.specs.Lent.{lists_lent};
 ghost use Rattle.advancing.specs.Source.{levels_lent, FormedLevels, Prepared};
 ghost use Rattle.optimizer.specs.Tables.{source_by};
 ghost use Rattle.optimizer.specs.Alone.{formed_levels-prop};
@@ -21,5 +22,5 @@ pub struct Ground<'a> {
     pub heads: &'a Index,
     pub tried: &'a [u8; 1025],
     pub limited: Limited<'a>,
-    ghost ready: { Prepared (source_by listed.rules limited.objective) listed.lists.now heads.now tried.now },
+    ghost ready: { Prepared (source_by listed.rules limited.objective) (lists_lent listed.lists) heads.now tried.now },
 }

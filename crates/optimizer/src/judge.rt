@@ -4,8 +4,10 @@ ghost use Rattle.asp.specs.Sets.{set_of};
 ghost use Rattle.asp.specs.Literal.{same_ℤ};
 ghost use Rattle.asp.specs.Program.{All};
 ghost use Rattle.asp.specs.Cost.{cost, level};
-ghost use Rattle.advancing.specs.Turn.{settled_from, soft_or_wanted, judge_full};
+ghost use Rattle.judging.specs.Lent.{tables_of};
+ghost use Rattle.advancing.specs.Turn.{query_tables, settled_from, soft_or_wanted, judge_full};
 ghost use Rattle.advancing.specs.Ready.{softs};
+ghost use Rattle.optimizer.specs.Tables.{source_by};
 ghost use Rattle.optimizer.specs.Lent.{source_lent, query_lent, LeafFor};
 
 use crate::query::Query;
@@ -14,6 +16,7 @@ use asp::atoms::AtomSet;
 use asp::cost::Objective;
 use counting::counters::Counters;
 use indexing::leaf::FullTrail;
+use judging::judge::Cores;
 
 // Whether a set costs on level l what that is settled at.
 fn is_settled_at(objective: &Objective<'_>, l: usize, m: AtomSet<'_>, lowers: &[i64; 8]) -> bool
@@ -46,8 +49,31 @@ fn soft_or_wanted(j: Option<usize>) -> Judgement
     }
 }
 
+// The judgement of a full trail: by the rules and the costs on the first `level` levels, which are settled, and then by the soft literals, those that are blamed already
+// first.
+pub fn judge_full(
+    full: &FullTrail<'_>,
+    objective: &Objective<'_>,
+    level: usize,
+    lowers: &[i64; 8],
+    assumed: &[u16],
+    cores: &Cores<'_>,
+    blamed: &[u16],
+) -> Judgement
+    requires level { (level ≤ length objective.now.levels.now) × (level ≤ 8) }
+    requires inside { All (λ m. m < length cores.now.softs.now) assumed.now × All (λ m. m < length cores.now.softs.now) blamed.now }
+    ensures { (ws : List ℤ) (ps : List ℕ) → result ≡ judge_full (source_by full.now.listed.rules objective.now) (query_tables level lowers.now ws ps assumed.now (tables_of cores.now)) blamed.now full.now.value.now }
+{
+    let value = full.value;
+    let set = AtomSet { bytes: value };
+    if !full.is_stable() || !is_settled(objective, level, set, lowers) {
+        return Judgement::Dead;
+    }
+    soft_or_wanted(cores.judge_both(blamed, assumed, set))
+}
+
 impl Query<'_> {
-    // The judgement of a full trail: by the rules and the settled costs, and then by the soft literals, those that are blamed already first.
+    // That of the query's trail.
     pub fn judge_full(&self, blamed: &[u16], value: &[u8; 1025], counters: &Counters) -> Judgement
         requires inside { All (λ m. m < softs (query_lent self.now)) blamed.now }
         requires leaf { LeafFor self.now.ground value.now counters.now }
@@ -59,11 +85,15 @@ impl Query<'_> {
             value,
             counters,
         };
-        let set = AtomSet { bytes: value };
         let objective = &self.ground.limited.objective;
-        if !full.is_stable() || !is_settled(objective, self.level, set, self.lowers) {
-            return Judgement::Dead;
-        }
-        soft_or_wanted(self.cores.judge_both(blamed, self.assumed, set))
+        judge_full(
+            &full,
+            objective,
+            self.level,
+            self.lowers,
+            self.assumed,
+            &self.cores,
+            blamed,
+        )
     }
 }

@@ -7,6 +7,7 @@ ghost use Rattle.optimizer.specs.Tables.{source_by};
 use asp::cost::Objective;
 use asp::rules::RuleTable;
 use counting::index::Index;
+use counting::views::ReadableRules;
 use indexing::build::{By, Listing};
 
 // The rules by condition and by head atom; by atom, 1 for one to be tried in first.
@@ -22,12 +23,16 @@ pub fn prepare(rules: RuleTable<'_>, objective: Objective<'_>) -> Preparation
     requires { Readied (rule_tables (source_by rules objective)) }
     ensures { Prepared (source_by rules.entry objective.entry) result.conditions result.heads result.tried }
 {
+    let readable = ReadableRules {
+        pool: rules.pool,
+        rows: rules.rows,
+    };
     let by_condition = Listing {
-        rules,
+        rules: readable,
         by: By::Condition,
     };
     let by_head = Listing {
-        rules,
+        rules: readable,
         by: By::Head,
     };
     Preparation {

@@ -27,6 +27,13 @@ pub struct Query<'a> {
     ghost ready: { ReadyQuery (source_by ground.listed.rules ground.limited.objective) (query_tables level lowers.now wished.now spots.now assumed.now (tables_of cores)) } by { ready_query-prop _ _ },
 }
 
+// What steps of a query came to, and the greatest remaining weight below its stratum.
+#[derive(Clone, Copy, PartialEq, Eq, Debug)]
+pub struct Asked {
+    pub steps: Steps,
+    pub below: u32,
+}
+
 impl Query<'_> {
     ghost use Rattle.std.specs.Prelude.{◌≡◌};
     ghost use Rattle.search.specs.Places.{SoundTrail};
@@ -40,7 +47,9 @@ impl Query<'_> {
         requires sound_trail { SoundTrail self.now.ground.listed.rules.atoms trail.old }
         ensures { turns (turned result.turn trail.new blame.new) result.made ≡ turns_of (source_lent self.now.ground) (query_lent self.now) budget trail.old blame.old }
     {
-        let mut counters = fill::fill(&self.ground.listed, &trail.value);
+        let listed = &self.ground.listed;
+        let rules = listed.readable();
+        let mut counters = fill::fill(&rules, &listed.lists, &trail.value);
         let mut walk = Walk {
             query: self,
             blame,
@@ -54,14 +63,21 @@ impl Query<'_> {
 impl Ground<'_> {
     ghost use Rattle.std.specs.Prelude.{◌≡◌};
     ghost use Rattle.search.specs.Places.{SoundTrail};
-    ghost use Rattle.cores.specs.Tables.{SoundTables};
+    ghost use Rattle.cores.specs.Level.{under};
+    ghost use Rattle.cores.specs.Tables.{level_of, SoundTables};
     ghost use Rattle.advancing.specs.Turn.{turned, turns, turns_of};
     ghost use Rattle.advancing.specs.Advance.{work_query};
     ghost use Rattle.advancing.specs.Ready.{ReadyQuery, GoodBlame};
     ghost use Rattle.optimizer.specs.Lent.{source_lent};
 
     // Steps of the query that stands at the level, with its tables and its stratum.
-    pub fn run_query(&self, w: &Work, blame: &mut Blame, trail: &mut Places, budget: u32) -> Steps
+    pub(crate) fn query_steps(
+        &self,
+        w: &Work,
+        blame: &mut Blame,
+        trail: &mut Places,
+        budget: u32,
+    ) -> Steps
         requires ready_query { ReadyQuery (source_lent self.now) (work_query w.now) }
         requires good_blame { GoodBlame (work_query w.now) blame.old }
         requires sound_trail { SoundTrail self.now.listed.rules.atoms trail.old }
@@ -85,5 +101,19 @@ impl Ground<'_> {
             cores,
         };
         q.run(blame, trail, budget)
+    }
+
+    // The same with the next stratum, for a caller that reads it: a run takes the steps alone, since an end on the level finds it by itself.
+    pub fn run_query(&self, w: &Work, blame: &mut Blame, trail: &mut Places, budget: u32) -> Asked
+        requires ready_query { ReadyQuery (source_lent self.now) (work_query w.now) }
+        requires good_blame { GoodBlame (work_query w.now) blame.old }
+        requires sound_trail { SoundTrail self.now.listed.rules.atoms trail.old }
+        requires sound_tables { SoundTables w.now.tables }
+        ensures steps { turns (turned result.steps.turn trail.new blame.new) result.steps.made ≡ turns_of (source_lent self.now) (work_query w.now) budget trail.old blame.old }
+        ensures below { result.below ≡ under w.now.stratum (level_of w.now.tables).rests }
+    {
+        let steps = self.query_steps(w, blame, trail, budget);
+        let below = query::next_stratum(w.tables.soft_literals(), w.stratum);
+        Asked { steps, below }
     }
 }

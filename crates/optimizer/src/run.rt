@@ -1,6 +1,5 @@
 // Advances of an optimization.
 ghost use Rattle.std.specs.Prelude.{◌≡◌, ◌≤◌, ◌<◌, length};
-ghost use Rattle.cores.specs.Tables.{FormedTables};
 ghost use Rattle.advancing.specs.Source.{levels_lent};
 ghost use Rattle.advancing.specs.Turn.{blamed_of};
 ghost use Rattle.advancing.specs.State.{fresh_blame, fresh_search, fresh_for};
@@ -61,7 +60,6 @@ impl Limited<'_> {
     // A query has ended. "An ended question empties the path, and the same advance prepares the next."
     fn end_query(&self, s: &mut Search, turn: Turn)
         requires level { s.old.phase ≡ Phase.Level → s.old.work.level < length self.now.objective.levels.now }
-        requires tables { FormedTables s.old.work.tables }
         requires blame { s.old.blame.from ≤ 4096 }
         requires core { s.old.phase ≡ Phase.Level → turn ≡ Turn.Without → ReadyCore s.old.work (blamed_of s.old.blame) }
         ensures { s.new ≡ ended_query s.old.advances (finish_of (levels_lent self.now.objective) s.old.phase s.old.work s.old.trail.value (blamed_of s.old.blame) turn) }
@@ -84,7 +82,7 @@ impl Ground<'_> {
             if !s.phase.is_running() {
                 return made;
             }
-            let steps = self.run_query(&s.work, &mut s.blame, &mut s.trail, budget - made);
+            let steps = self.query_steps(&s.work, &mut s.blame, &mut s.trail, budget - made);
             made += steps.made;
             s.advances = state::counted(s.advances, steps.made);
             if turn::is_going(steps.turn) {

@@ -3,6 +3,7 @@ ghost use Rattle.std.specs.Prelude.{◌≡◌};
 ghost use Rattle.search.specs.Places.{SoundTrail};
 ghost use Rattle.search.specs.Lent.{rules_lent};
 ghost use Rattle.counting.specs.Counts.{Tracks};
+ghost use Rattle.counting.specs.Lent.{lists_lent};
 ghost use Rattle.advancing.specs.Turn.{is_going};
 ghost use Rattle.advancing.specs.Ready.{GoodBlame};
 ghost use Rattle.search.specs.Alone.{sound_trail-prop};
@@ -28,7 +29,7 @@ pub struct Walk<'a> {
     pub counters: &'a mut Counters,
     ghost good_blame: { GoodBlame (query_lent query.now) blame.now } by { good_blame-prop _ _ },
     ghost sound_trail: { SoundTrail query.now.ground.listed.rules.atoms trail.now } by { sound_trail-prop _ _ },
-    ghost tracks: { Tracks (rules_lent query.now.ground.listed.rules) query.now.ground.listed.lists.now trail.now.value counters.now },
+    ghost tracks: { Tracks (rules_lent query.now.ground.listed.rules) (lists_lent query.now.ground.listed.lists) trail.now.value counters.now },
 }
 
 // What some steps came to, and how many they were.
@@ -60,15 +61,16 @@ impl Walk<'_> {
         ensures turned { turned result self.new.trail.now self.new.blame.now ≡ judged_turn (query_lent self.old.query.now) self.old.trail.now self.old.blame.now (judge_full (source_lent self.old.query.now.ground) (query_lent self.old.query.now) (blamed_of self.old.blame.now) self.old.trail.now.value) }
     {
         let query = self.query;
+        let rules = query.ground.listed.weighable();
         match query.judge_full(blamed(self.blame), &self.trail.value, self.counters) {
             Judgement::Wanted => Turn::Model,
             Judgement::Dead => {
-                trail::back(&query.ground.listed, self.trail, self.counters);
+                trail::back(&rules, self.trail, self.counters);
                 backed(self.trail)
             }
             Judgement::Violated(p) => {
                 blame_place(query.spots, p, self.blame);
-                trail::back(&query.ground.listed, self.trail, self.counters);
+                trail::back(&rules, self.trail, self.counters);
                 backed(self.trail)
             }
         }

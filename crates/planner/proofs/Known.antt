@@ -6,13 +6,14 @@ use Rattle.std.proofs.Props.{props}
 use Rattle.std.specs.Coded.{×_prop, Unit-prop, le_prop}
 use mathlib.Core.HLevel.{Σ_prop_path}
 use Rattle.asp.specs.declared.entries.Entry.{Entry}
-use Rattle.asp.specs.Program.{Head, constraint, plain, choice, Body, normal, weighted, Rule, All, HeadIn, BodyIn, RuleIn}
+use Rattle.asp.specs.Program.{Head, constraint, plain, choice, Body, normal, weighted, Rule, Symbol, Program, All, LiteralIn, HeadIn, BodyIn, RuleIn, ProgramIn}
 use Rattle.asp.specs.Sets.{In}
 use Rattle.asp.specs.Tables.{symbol_row}
 use Rattle.asp.specs.declared.symbols.SymbolRow.{SymbolRow}
 use Rattle.asp.specs.Paying.{SymbolFormed}
-use Rattle.aspif.specs.Store.{WellFormed}
+use Rattle.aspif.specs.Store.{WellFormed, BodyWeighs}
 use Rattle.aspif_tables.specs.declared.table.Stored.{Stored}
+use Rattle.aspif_tables.specs.Lists.{Below, Descending}
 use Rattle.cores.proofs.Sums.{below_or}
 use Rattle.advancing.specs.declared.state.Search.{Search}
 use Rattle.advancing.specs.Source.{Source, FormedSource}
@@ -67,6 +68,30 @@ literals_prop n ls = all_prop (λ l. in_prop n (nat_abs l)) ls
 
 symbol_prop : (conditions : List ℤ) (row : SymbolRow) → IsProp (SymbolFormed conditions row)
 symbol_prop conditions row = Prim.hlevel (literals_prop, props)
+
+symbols_prop : (n : ℕ) (ys : List Symbol) → IsProp (All (λ (y : Symbol). All (LiteralIn n) y.condition) ys)
+symbols_prop n ys = all_prop (λ y. literals_prop n y.condition) ys
+
+program_prop : (n : ℕ) (P : Program) → IsProp (ProgramIn n P)
+program_prop n P = Prim.hlevel (rules_prop, entries_prop, symbols_prop, props)
+
+weighs_prop : (b : Body) → IsProp (BodyWeighs b)
+weighs_prop (normal ls) = Unit-prop
+weighs_prop (weighted b ps) = ×_prop le_prop (all_prop (λ p. le_prop) ps)
+
+bodies_prop : (rs : List Rule) → IsProp (All (λ (r : Rule). BodyWeighs r.body) rs)
+bodies_prop rs = all_prop (λ r. weighs_prop r.body) rs
+
+below_prop : (q : ℤ) (qs : List ℤ) → IsProp (Below q qs)
+below_prop q [] = Unit-prop
+below_prop q (r ∷ rs) = Prim.hlevel props
+
+descending_prop : (qs : List ℤ) → IsProp (Descending qs)
+descending_prop [] = Unit-prop
+descending_prop (q ∷ qs) = ×_prop (below_prop q qs) (descending_prop qs)
+
+well_formed_prop : (p : Stored) → IsProp (WellFormed p)
+well_formed_prop p = Prim.hlevel (rules_prop, entries_prop, program_prop, bodies_prop, descending_prop, props)
 
 prepared_prop : (l : Loaded) → IsProp (PreparedFor l.stored l.prepared)
 prepared_prop l = Prim.hlevel props
@@ -170,6 +195,10 @@ module _ {l : Loaded} (h : ∥ Sound l ∥₁) where
   known_reached =
       let u = ∥∥₁_elim h (steps_prop (source_of l.stored) known_source l.search) (λ s. steps_are (source_of l.stored) s.reached) in
       record { source = known_source; made = u.0; is = u.1.0 }
+
+  -- all that is sound: the ghost field says `Sound` whole
+  pub known_sound : Sound l
+  known_sound = record { formed = ∥∥₁_elim known_formed (well_formed_prop l.stored) (λ w. w); prepared = known_prepared; reached = known_reached }
 
   pub known_levels : l.stored.counts.levels ≤ 8
   known_levels = ∥∥₁_elim h le_prop (λ s. s.formed.within.levels)

@@ -27,7 +27,7 @@ impl Loaded {
         let ground = Ground {
             listed: Listed {
                 rules,
-                lists: &self.prepared.conditions,
+                lists: self.prepared.conditions.lent(),
             },
             heads: &self.prepared.heads,
             tried: &self.prepared.tried,

@@ -28,8 +28,7 @@ pub fn part_or<'a>(answer: Result<usize, Refusal>, bytes: &'a [u8]) -> Result<&'
     ensures { says_part result ≡ part_or (says answer) bytes.now }
 {
     match answer {
-        Ok(n) if n <= bytes.len() => Ok(&bytes[..n]),
-        Ok(_) => Ok(bytes),
+        Ok(_) => Ok(part(answer, bytes)),
         Err(refusal) => Err(refusal),
     }
 }

@@ -6,20 +6,27 @@ use crate::service::{Loaded, Service};
 use crate::tables;
 pub use aspif::text::RefusedAt;
 
+// "accepted, the service is as a fresh one given it, with status running"; refused, what is held is as before. It asks nothing of that.
+pub fn load(held: &mut Option<Loaded>, text: &[u8]) -> Result<(), RefusedAt>
+    ensures { AfterLoad (text_of text.now) held.old (outcome (says_load result) held.new) }
+{
+    let stored = aspif::text::load(text)?;
+    let limited = tables::limited(&stored);
+    let prepared = optimizer::prepare::prepare(tables::rules(&stored), limited.objective);
+    let search = limited.fresh();
+    *held = Some(Loaded {
+        stored,
+        prepared,
+        search,
+    });
+    Ok(())
+}
+
 impl Service {
-    // "accepted, the service is as a fresh one given it, with status running"; refused, it is as before.
+    // The same of a service.
     pub fn load(&mut self, text: &[u8]) -> Result<(), RefusedAt>
         ensures { AfterLoad (text_of text.now) self.old.held (outcome (says_load result) self.new.held) }
     {
-        let stored = aspif::text::load(text)?;
-        let limited = tables::limited(&stored);
-        let prepared = optimizer::prepare::prepare(tables::rules(&stored), limited.objective);
-        let search = limited.fresh();
-        self.held = Some(Loaded {
-            stored,
-            prepared,
-            search,
-        });
-        Ok(())
+        load(&mut self.held, text)
     }
 }

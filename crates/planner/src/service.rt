@@ -1,5 +1,7 @@
 // The service, and an empty one.
+ghost use Rattle.std.specs.Prelude.{◌≡◌};
 ghost use Rattle.std.specs.Option.{ForSome};
+ghost use Rattle.planner.specs.Held.{fresh_service};
 ghost use Rattle.planner.specs.Sound.{Sound};
 
 use advancing::state::{Phase, Search};
@@ -22,9 +24,8 @@ pub struct Service {
 }
 
 impl Service {
-    ghost use Rattle.std.specs.Prelude.{◌≡◌, Some, None, IfOk, IfErr};
+    ghost use Rattle.std.specs.Prelude.{Some, None, IfOk, IfErr};
     ghost use Rattle.planner.specs.declared.service.Refusal.TheVariants.{NotLoaded};
-    ghost use Rattle.planner.specs.Held.{fresh_service};
 
     // "A fresh service has nothing loaded and status empty."
     pub fn fresh() -> Self
@@ -45,8 +46,15 @@ impl Service {
     pub fn clear(&mut self)
         ensures { self.new.held ≡ fresh_service }
     {
-        self.held = None;
+        clear(&mut self.held);
     }
+}
+
+// The same of what a service holds: it asks nothing of that.
+pub fn clear(held: &mut Option<Loaded>)
+    ensures { held.new ≡ fresh_service }
+{
+    *held = None;
 }
 
 #[derive(Clone, Copy, PartialEq, Eq, Debug)]
@@ -60,7 +68,6 @@ pub enum Status {
 
 // The status while a program is loaded.
 impl From<Phase> for Status {
-    ghost use Rattle.std.specs.Prelude.{◌≡◌};
     ghost use Rattle.planner.specs.Held.{status_of};
 
     ghost from_gives = { λ p s. s ≡ status_of p };

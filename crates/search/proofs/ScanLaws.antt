@@ -10,8 +10,8 @@ use Rattle.asp.specs.Sets.{pick}
 use Rattle.asp.proofs.Signed.{abs_neg}
 use Rattle.search.specs.Places.{truth_at}
 use Rattle.search.specs.declared.scan.Rest.{Rest}
-use Rattle.search.specs.declared.scan.Rest.TheVariants.{Off}
-use Rattle.search.specs.Scan.{cond_at, meets}
+use Rattle.search.specs.declared.scan.Rest.TheVariants.{All, One, Off}
+use Rattle.search.specs.Scan.{cond_at, free_of, meet_of, meets}
 
 by_sign : (b : Bool) (l : ℤ) → nat_abs l ≤ 1024 → nat_abs (pick b (neg_ℤ l) l) ≤ 1024
 by_sign true l h = rw abs_neg h
@@ -29,3 +29,30 @@ pub off_stays : (v : List ℕ) (ls : List ℤ) → meets v Off ls ≡ Off
 unfolding meets
 off_stays v [] = refl
 off_stays v (l ∷ ls) = ap (λ (s : Rest). meets v s ls) (pick_same (eqb (truth_at v l) 1) (eqb (truth_at v l) 0) Off) ∙ off_stays v ls
+
+-- ---- one more condition, by what is left of it alone
+
+module _ (v : List ℕ) (s : Rest) (l : ℤ) where
+  pub met_all : All ≡ meet_of v All l → s ≡ meet_of v s l
+  met_all = go (eqb (truth_at v l) 1) (eqb (truth_at v l) 0)
+    where
+      go : (a b : Bool) → All ≡ pick a All (pick b (One l) Off) → s ≡ pick a s (pick b (free_of s l) Off)
+      go true b e = refl
+      go false true e = cc
+      go false false e = cc
+
+  pub met_one : {k : ℤ} → One k ≡ meet_of v All l → {r : Rest} → r ≡ free_of s l → r ≡ meet_of v s l
+  met_one {k} e {r} f = go (eqb (truth_at v l) 1) (eqb (truth_at v l) 0) e
+    where
+      go : (a b : Bool) → One k ≡ pick a All (pick b (One l) Off) → r ≡ pick a s (pick b (free_of s l) Off)
+      go true b q = cc
+      go false true q = f
+      go false false q = cc
+
+  pub met_off : Off ≡ meet_of v All l → Off ≡ meet_of v s l
+  met_off = go (eqb (truth_at v l) 1) (eqb (truth_at v l) 0)
+    where
+      go : (a b : Bool) → Off ≡ pick a All (pick b (One l) Off) → Off ≡ pick a s (pick b (free_of s l) Off)
+      go true b e = cc
+      go false true e = cc
+      go false false e = refl

@@ -1,6 +1,6 @@
 // What a scan over rules and their literals meets: a condition of a rule, what is left of it, what is found. The scan itself is in `stepping`.
 ghost use Rattle.std.specs.Prelude.{◌≡◌, ℕ, ◌<◌, ◌≤◌, length, get_or, pos, nat_abs};
-ghost use Rattle.search.specs.Scan.{cond_at, meet_of, is_all, note_of};
+ghost use Rattle.search.specs.Scan.{cond_at, meet_of, free_of, is_all, note_of};
 
 use crate::value;
 use asp::literal;
@@ -55,6 +55,38 @@ pub fn left_at(pool: &[i32], value: &[u8; 1025], mid: usize, k: usize) -> Rest
     left(value, condition(pool, mid, k))
 }
 
+// An undecided condition beside what is left of those before.
+fn free(rest: Rest, l: i32) -> Rest
+    ensures { result ≡ free_of rest l }
+{
+    match rest {
+        Rest::All => Rest::One(l),
+        Rest::One(f) => { if f == l { rest } else { Rest::Off } }
+        Rest::Off => Rest::Off,
+    }
+}
+
+// One more condition beside what is left of those before.
+fn meet(value: &[u8; 1025], rest: Rest, l: i32) -> Rest
+    requires { nat_abs l ≤ 1024 }
+    ensures { result ≡ meet_of value.now rest l }
+{
+    match left(value, l) {
+        Rest::All => rest,
+        Rest::One(_) => free(rest, l),
+        Rest::Off => Rest::Off,
+    }
+}
+
+// The condition at place k is met, beside what is left of those before.
+pub fn meet_at(pool: &[i32], value: &[u8; 1025], rest: Rest, mid: usize, k: usize) -> Rest
+    requires k_in_bounds { k < length pool.now }
+    requires pos_bound { nat_abs (get_or pool.now k (pos 0)) ≤ 1024 }
+    ensures { result ≡ meet_of value.now rest (cond_at pool.now mid k) }
+{
+    meet(value, rest, condition(pool, mid, k))
+}
+
 impl Rest {
     pub fn is_all(self) -> bool
         ensures { result ≡ is_all self }
@@ -70,5 +102,15 @@ impl Rest {
             Rest::One(l) => Found::Breaker(l),
             Rest::All | Rest::Off => Found::Clear,
         }
+    }
+}
+
+// The first literal that is left alone is noted.
+pub fn note(found: Found, rest: Rest) -> Found
+    ensures { result ≡ note_of found rest }
+{
+    match found {
+        Found::Broken(_) | Found::Breaker(_) => found,
+        Found::Clear => rest.noted(),
     }
 }

@@ -1,7 +1,7 @@
 // The assumed soft literals of entries (document 01's wishes): each is the literal that it wishes for, and is violated where that does not hold.
 ghost use Rattle.std.specs.Prelude.{◌≡◌, ◌≤◌, length};
 ghost use Rattle.asp.specs.Sets.{set_of};
-ghost use Rattle.search.specs.Soft.{assumed_entries, ReadableSoft, first_of};
+ghost use Rattle.search.specs.Soft.{assumed_entries, ReadableWishes, ReadableSoft, first_of, wish_of};
 
 use crate::value::truth;
 
@@ -22,8 +22,21 @@ fn first_of(found: Option<usize>, i: usize) -> Option<usize>
     found.or(Some(i))
 }
 
+// The first wished literal whose atom is undecided.
+pub fn undecided(literals: &[i32], value: &[u8; 1025]) -> Option<i32>
+    requires { ReadableWishes literals.now (length literals.now) }
+    ensures { result ≡ wish_of literals.now (length literals.now) value.now }
+{
+    for l in literals {
+        if truth(value, *l) == 0 {
+            return Some(*l);
+        }
+    }
+    None
+}
+
 impl Wishes<'_> {
-    ghost use Rattle.search.specs.Soft.{violated_of, wish_of};
+    ghost use Rattle.search.specs.Soft.{violated_of};
     ghost use Rattle.search.specs.Lent.{assumed_lent};
 
     // The first one that is violated and blamed already; else the first that is violated; None, where none is.
@@ -47,11 +60,6 @@ impl Wishes<'_> {
     pub fn undecided(&self, value: &[u8; 1025]) -> Option<i32>
         ensures { result ≡ wish_of self.now.literals.now (length self.now.literals.now) value.now }
     {
-        for l in self.literals {
-            if truth(value, *l) == 0 {
-                return Some(*l);
-            }
-        }
-        None
+        undecided(self.literals, value)
     }
 }

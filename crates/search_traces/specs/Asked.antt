@@ -13,3 +13,9 @@ pub record SameQuery (m k : Machine) : Type 0 where
   pub wished : k.wished ≡ m.wished
   pub models : k.models ≡ m.models
   pub blamed : k.blamed ≡ m.blamed
+
+-- it goes on over the program, the wishes and the models of before
+pub record SameProgram (m k : Machine) : Type 0 where
+  pub listed : k.listed ≡ m.listed
+  pub wished : k.wished ≡ m.wished
+  pub models : k.models ≡ m.models

@@ -5,6 +5,7 @@ ghost use Rattle.search.specs.Lent.{rules_lent};
 ghost use Rattle.search.specs.Alone.{sound_trail-prop};
 ghost use Rattle.indexing.specs.Sorting.{Sorted};
 ghost use Rattle.counting.specs.Counts.{Tracks};
+ghost use Rattle.counting.specs.Lent.{lists_lent};
 ghost use Rattle.std.proofs.Props.{props};
 ghost use Rattle.search_traces.specs.Stored.{Wished};
 
@@ -30,7 +31,7 @@ pub struct Machine<'a> {
     pub blamed: [u8; 8],
     pub ghost wishes: { Wished listed.rules.atoms wished.now } by { Prim.hlevel props },
     pub ghost sound: { SoundTrail listed.rules.atoms trail } by { sound_trail-prop _ _ },
-    pub ghost tracks: { Tracks (rules_lent listed.rules) listed.lists.now trail.value counters },
+    pub ghost tracks: { Tracks (rules_lent listed.rules) (lists_lent listed.lists) trail.value counters },
 }
 
 impl<'a> Machine<'a> {
@@ -41,10 +42,11 @@ impl<'a> Machine<'a> {
     {
         let listed = Listed {
             rules: program.table,
-            lists: conditions,
+            lists: conditions.lent(),
         };
         let trail = Places::fresh();
-        let counters = fill::fill(&listed, &trail.value);
+        let rules = listed.readable();
+        let counters = fill::fill(&rules, &listed.lists, &trail.value);
         Machine {
             listed,
             wished: program.wished,
@@ -62,7 +64,7 @@ impl Machine<'_> {
     ghost use Rattle.search.specs.Soft.{violated_of};
     ghost use Rattle.search.specs.Step.{stepped, step_of};
     ghost use Rattle.search.specs.Lent.{rules_lent};
-    ghost use Rattle.search_traces.specs.Asked.{wishes_of, SameQuery};
+    ghost use Rattle.search_traces.specs.Asked.{wishes_of, SameQuery, SameProgram};
 
     // One step. No atom is to be tried in first.
     pub fn step(&mut self) -> Tested
@@ -83,7 +85,8 @@ impl Machine<'_> {
         ensures back { self.new.trail ≡ back_of self.old.trail }
         ensures same { SameQuery self.old self.new }
     {
-        trail::back(&self.listed, &mut self.trail, &mut self.counters);
+        let rules = self.listed.weighable();
+        trail::back(&rules, &mut self.trail, &mut self.counters);
     }
 
     // The wish that the trail violates.
@@ -103,6 +106,7 @@ impl Machine<'_> {
     pub fn blame(&mut self, i: usize)
         ensures blamed { i < 8 → self.new.blamed ≡ set self.old.blamed i 1 }
         ensures trail { self.new.trail ≡ self.old.trail }
+        ensures same { SameProgram self.old self.new }
     {
         if i < 8 {
             self.blamed[i] = 1;

@@ -6,6 +6,7 @@ ghost use Rattle.search_traces.specs.Stored.{Roomy, Wished};
 
 use asp::rules::RuleTable;
 use counting::index::Index;
+use counting::views::ReadableRules;
 use indexing::build::{By, Listing};
 
 #[derive(Clone, Copy)]
@@ -23,10 +24,11 @@ impl Program<'_> {
     pub fn lists(&self, by: By) -> Index
         ensures { Sorted (is_head by) (rules_lent self.now.table) result }
     {
-        let listing = Listing {
-            rules: self.table,
-            by,
+        let rules = ReadableRules {
+            pool: self.table.pool,
+            rows: self.table.rows,
         };
+        let listing = Listing { rules, by };
         listing.lists()
     }
 }

@@ -1,4 +1,6 @@
 // One query, run to its end and printed.
+ghost use Rattle.search_traces.specs.Asked.{SameProgram};
+
 use crate::machine::Machine;
 use crate::program::Program;
 use indexing::build::By;
@@ -23,13 +25,17 @@ fn came(rt: &impl Print, machine: &Machine<'_>) -> io::Result<Option<End>> {
 }
 
 // A full trail that is not wanted is cut.
-fn cut(rt: &impl Print, machine: &mut Machine<'_>) -> io::Result<Option<End>> {
+fn cut(rt: &impl Print, machine: &mut Machine<'_>) -> io::Result<Option<End>>
+    ensures { SameProgram machine.old machine.new }
+{
     machine.back();
     came(rt, machine)
 }
 
 // A full trail is judged.
-fn judge(rt: &impl Print, machine: &mut Machine<'_>) -> io::Result<Option<End>> {
+fn judge(rt: &impl Print, machine: &mut Machine<'_>) -> io::Result<Option<End>>
+    ensures { SameProgram machine.old machine.new }
+{
     print!(rt; "full")?;
     if !machine.models.contains(&machine.mask()) {
         print!(rt; " unstable")?;
@@ -49,17 +55,25 @@ fn judge(rt: &impl Print, machine: &mut Machine<'_>) -> io::Result<Option<End>> 
 }
 
 // One step, printed; a violated wish is blamed.
-fn turn(rt: &impl Print, machine: &mut Machine<'_>) -> io::Result<Option<End>> {
+fn turn(rt: &impl Print, machine: &mut Machine<'_>) -> io::Result<Option<End>>
+    ensures { SameProgram machine.old machine.new }
+{
     match machine.step() {
-        Tested::Full => return judge(rt, machine),
-        Tested::RuleBroken(r) => print!(rt; "rule {r}")?,
+        Tested::Full => judge(rt, machine),
+        Tested::RuleBroken(r) => {
+            print!(rt; "rule {r}")?;
+            came(rt, machine)
+        }
         Tested::SoftViolated(i) => {
             print!(rt; "soft {i}")?;
             machine.blame(i);
+            came(rt, machine)
         }
-        Tested::Open(_) => print!(rt; "open")?,
+        Tested::Open(_) => {
+            print!(rt; "open")?;
+            came(rt, machine)
+        }
     }
-    came(rt, machine)
 }
 
 // The wishes that are blamed.

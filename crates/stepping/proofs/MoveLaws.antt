@@ -4,26 +4,23 @@ use mathlib.Core.Bool.{Bool, true, false}
 use mathlib.Core.List.{List}
 use Prim.Native.Nat.{ℕ, zero, suc, ◌+◌, ◌-◌, ◌≤◌, ◌<◌}
 use native.Mathlib.Omega.{arith}
-use lib.Dec.{eqb, ltb}
+use lib.Dec.{ltb}
 use lib.IntN.{ℤ, pos, neg_ℤ, nat_abs}
-use lib.ListN.{length, get_or, set, length-set}
+use lib.ListN.{get_or}
 use mir.Syntax.{w32}
 use mir.Val.{to_z, of_z}
 use mir.Facts.{to_z-of_z}
-use borrow.Author.Tests.{eq-eqb, ne_eqb}
-use Rattle.asp.specs.Sets.{pick}
 use Rattle.asp.proofs.Signed.{abs_neg, small_fits}
 use Rattle.search.specs.declared.trail.Places.{Places}
 use Rattle.search.specs.declared.trail.Mark.{Mark}
 use Rattle.search.specs.declared.trail.Mark.TheVariants.{Free, Decision, Flipped}
-use Rattle.search.specs.Places.{is_decision, places, side_of, put_of, drop_of, Good}
+use Rattle.search.specs.Places.{is_decision, side_of, put_of, drop_of, Good}
 use Rattle.search.proofs.PlacesLaws.{good_drop}
-use Rattle.counting.specs.declared.counters.Marks.{Marks}
 use Rattle.counting.specs.declared.index.Index.{Index}
 use Rattle.counting.specs.declared.counters.Counters.{Counters}
-use Rattle.counting.specs.Counters.{counters, decide_of, release_of, Bodies, weigh_of}
+use Rattle.counting.specs.Counters.{decide_of, release_of, Bodies, weigh_of}
 use Rattle.counting.specs.Moves.{CountedTrail, counted_trail, put_all, drop_all, back_all_from, back_all}
-use Rattle.counting.proofs.CounterLaws.{release_len, decide_len, weigh_len, weigh_none}
+use Rattle.counting.proofs.CounterLaws.{weigh_none}
 
 -- a small i32 read back
 back_to : (l : ℤ) → nat_abs l ≤ 1024 → to_z w32 (of_z w32 l) ≡ l

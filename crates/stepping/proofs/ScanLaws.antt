@@ -2,7 +2,7 @@
 use mathlib.Core.Path.{◌≡◌, refl, sym, ap, ◌∙◌}
 use mathlib.Core.Bool.{Bool, true, false, ◌&&◌}
 use mathlib.Core.List.{List, [], ◌∷◌}
-use Prim.Native.Nat.{ℕ, zero, suc, ◌+◌, ◌-◌, ◌*◌, ◌^◌, ◌≤◌, ◌<◌}
+use Prim.Native.Nat.{ℕ, zero, suc, ◌+◌, ◌-◌, ◌^◌, ◌≤◌, ◌<◌}
 use native.Mathlib.Omega.{arith}
 use mir.Syntax.{w64}
 use mir.Val.{Fits}
@@ -24,7 +24,7 @@ use Rattle.search.specs.Scan.{Rules, rules, row_of, Readable, cond_at, condition
 use Rattle.search.specs.Weigh.{both_rest}
 use Rattle.search.proofs.ScanLaws.{off_stays}
 use Rattle.counting.specs.declared.counters.Marks.{Marks}
-use Rattle.counting.specs.Counters.{counters, marks, bodies}
+use Rattle.counting.specs.Counters.{counters, marks}
 use Rattle.counting.specs.Moves.{RowWeighs}
 use Rattle.counting.specs.Counts.{MarksRight, Tells, Told, NoneBelow, NoneIn, SpotSays, spotted_of, Spotted}
 use Rattle.counting.proofs.Sums.{sum_part, sum_none}
@@ -251,6 +251,10 @@ pub spotted_off : (s : Rest) (r : ℕ) → s ≡ Off → Clear ≡ spotted_of s 
 spotted_off s r e = rw e
 
 -- ---- what the calls ask
+
+module _ (g : Rules) {r k h : ℕ} where
+  pub mid_in_lem : Readable g → r < g.count → length g.pool < 2 ^ 64 → k ≡ (row_of g r).first → h ≡ (row_of g r).heads → Fits w64 (k + h)
+  mid_in_lem f l z ek eh = omega (arith, f.inside r l)
 
 module _ {g : Rules} {v : List ℕ} {r mid end k : ℕ} (i : Inner g v r mid end k) where
   pub place_in : k < end → k < length g.pool

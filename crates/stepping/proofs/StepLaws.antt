@@ -1,19 +1,16 @@
 -- The ways that a test and a step go, from what their calls say. Assumes nothing.
-use mathlib.Core.Path.{◌≡◌, refl, ap, ◌∙◌}
+use mathlib.Core.Path.{◌≡◌, refl, ap, ap₂, ◌∙◌}
 use mathlib.Core.Bool.{Bool, true, false}
 use mathlib.Core.Logic.{◌⊎◌, inl, inr}
 use mathlib.Core.List.{List}
-use Prim.Native.Nat.{ℕ, zero, suc, ◌+◌, ◌≤◌, ◌<◌}
-use native.Mathlib.Omega.{arith}
-use lib.Dec.{eqb}
+use Prim.Native.Nat.{ℕ, zero, suc, ◌≤◌}
 use lib.IntN.{ℤ, pos, neg_ℤ, nat_abs}
 use lib.ListN.{get_or}
 use mir.Syntax.{w32}
 use mir.Val.{to_z, of_z}
-use borrow.Author.Tests.{eq-eqb}
 use Rattle.asp.specs.declared.rules.Row.{Row}
-use Rattle.asp.specs.Sets.{pick, ind}
-use Rattle.asp.specs.Tables.{is_weighted, Formed}
+use Rattle.asp.specs.Sets.{pick}
+use Rattle.asp.specs.Tables.{Formed}
 use Rattle.search.specs.declared.scan.Found.{Found}
 use Rattle.search.specs.declared.scan.Found.TheVariants.{Broken, Breaker, Clear}
 use Rattle.search.specs.declared.step.Tested.{Tested}
@@ -21,20 +18,17 @@ use Rattle.search.specs.declared.step.Tested.TheVariants.{RuleBroken, Full, Soft
 use Rattle.search.specs.declared.trail.Places.{Places}
 use Rattle.search.specs.declared.trail.Mark.{Mark}
 use Rattle.search.specs.declared.trail.Mark.TheVariants.{Free, Decision, Flipped}
-use Rattle.search.specs.Places.{is_decision, places, put_of, drop_of, back_from, Good}
-use Rattle.search.specs.Scan.{Rules, rules, row_of, Readable, scan_of}
+use Rattle.search.specs.Places.{is_decision, put_of, drop_of, back_from, Good}
+use Rattle.search.specs.Scan.{Rules, rules, scan_of}
 use Rattle.search.specs.Soft.{AssumedEntries, FormedSoft}
 use Rattle.search.specs.Branch.{DecidedBelow, LowestIs}
 use Rattle.search.specs.Step.{unbroken, test_by, test_of, stepped, step_of}
-use Rattle.search.proofs.Formed.{readable}
 use Rattle.search.proofs.StepLaws.{step_broken, step_full, step_violated, step_open, open_small}
-use Rattle.counting.specs.declared.counters.Marks.{Marks}
 use Rattle.counting.specs.declared.index.Index.{Index}
 use Rattle.counting.specs.declared.counters.Counters.{Counters}
-use Rattle.counting.specs.Counters.{counters, marks, Bodies, bodies, first, list_length}
+use Rattle.counting.specs.Counters.{counters, marks, Bodies, bodies}
 use Rattle.counting.specs.Moves.{CountedTrail, counted_trail, put_all, drop_all, back_all_from, back_all}
-use Rattle.counting.specs.Counts.{times_in, MarksRight, Tracks, Indexed, Told}
-use Rattle.counting.proofs.Sums.{sum_part}
+use Rattle.counting.specs.Counts.{MarksRight, Tracks, Indexed, Told}
 use Rattle.counting.proofs.Telling.{told}
 use Rattle.counting.proofs.Counting.{put_counted, back_counted}
 
@@ -85,6 +79,15 @@ back_trail bs o (suc k) h = go (is_decision (get_or h.trail.marks k Free)) (back
         → (pick b (put_all bs o (neg_ℤ (get_or h.trail.lits k (pos 0))) Flipped (drop_all bs o k h)) (back_all_from bs o k (drop_all bs o k h))).trail ≡ pick b (put_of (neg_ℤ (get_or h.trail.lits k (pos 0))) Flipped (drop_of k h.trail)) (back_from k (drop_of k h.trail))
     go true r = refl
     go false r = r
+
+-- ---- a move by equal bodies and lists
+
+module _ {b c : Bodies} {o p : Index} (e : b ≡ c) (q : o ≡ p) (h : CountedTrail) {x : CountedTrail} where
+  pub put_by : (l : ℤ) (m : Mark) → x ≡ put_all b o l m h → x ≡ put_all c p l m h
+  put_by l m z = z ∙ ap₂ (λ (d : Bodies) (i : Index). put_all d i l m h) e q
+
+  pub back_by : x ≡ back_all b o h → x ≡ back_all c p h
+  back_by z = z ∙ ap₂ (λ (d : Bodies) (i : Index). back_all d i h) e q
 
 -- ---- the step
 

@@ -3,12 +3,12 @@ ghost use Rattle.std.specs.Prelude.{◌≡◌, ℕ, ◌+◌, ◌*◌, ◌<◌, �
 ghost use Rattle.asp.specs.Sets.{pick};
 ghost use Rattle.asp.specs.Tables.{is_weighted, row_at};
 ghost use Rattle.search.specs.Scan.{scan_of};
-ghost use Rattle.search.specs.Lent.{rules_lent};
 ghost use Rattle.counting.specs.Counters.{counters, marks};
 ghost use Rattle.counting.specs.Counts.{Told, MarksRight, NoneBelow, NoneIn, SpotSays, spotted_of, Spotted};
+ghost use Rattle.counting.specs.Views.{rules_read};
 
 use counting::counters::{Counters, Marks};
-use counting::listed::Listed;
+use counting::views::ReadableRules;
 use counting::weigh::WeightedRule;
 use search::scan;
 use search::scan::{Found, Rest};
@@ -114,43 +114,22 @@ fn spotted(rest: Rest, r: usize) -> Found
     }
 }
 
-// The first condition of rule r, whose number is `want`, that is not true; without one the rule is broken.
-fn by_conditions(
-    g: &Listed<'_>,
+// What is found of rule r, whose number is `want`, with a weighted body.
+fn weighed(
+    g: &ReadableRules<'_>,
     key: &[u16; 2048],
     want: u16,
     r: usize,
     value: &[u8; 1025],
 ) -> Found
-    requires told { Told (rules_lent g.now.rules) value.now key.now }
-    requires sought { (r < length g.now.rules.rows.now) × (want ≤ 1) × (get_or key.now r 0 ≡ want) }
-    requires normal { is_weighted (row_at g.now.rules.rows.now r).body ≡ false }
-    ensures { SpotSays (rules_lent g.now.rules) value.now want result r }
+    requires told { Told (rules_read g.now) value.now key.now }
+    requires sought { (r < length g.now.rows.now) × (want ≤ 1) × (get_or key.now r 0 ≡ want) }
+    requires weighted { is_weighted (row_at g.now.rows.now r).body ≡ true }
+    ensures { SpotSays (rules_read g.now) value.now want result r }
 {
-    let row = g.rules.rows[r];
-    let mid = row.body_first();
-    for k in usize::from(row.first)..mid + usize::from(row.literals) {
-        let rest = scan::left_at(g.rules.pool, value, mid, k);
-        if !rest.is_all() {
-            return rest.noted();
-        }
-    }
-    Found::Broken(r)
-}
-
-// What is found of rule r, whose number is `want`.
-fn found_at(g: &Listed<'_>, key: &[u16; 2048], want: u16, r: usize, value: &[u8; 1025]) -> Found
-    requires told { Told (rules_lent g.now.rules) value.now key.now }
-    requires sought { (r < length g.now.rules.rows.now) × (want ≤ 1) × (get_or key.now r 0 ≡ want) }
-    ensures { SpotSays (rules_lent g.now.rules) value.now want result r }
-{
-    let row = g.rules.rows[r];
-    if !row.body.is_weighted() {
-        return by_conditions(g, key, want, r, value);
-    }
     let rule = WeightedRule {
-        pool: g.rules.pool,
-        row,
+        pool: g.pool,
+        row: g.rows[r],
     };
     spotted(rule.rest(value), r)
 }
@@ -162,50 +141,61 @@ pub struct Spot {
     pub rule: usize,
 }
 
-// The scan for the first rule with the number `want`, from `start` on.
+// The scan for the first rule with the number `want`, from `start` on. It is left there: at the first of its conditions that is not true, or, where all are, with the rule broken.
 fn first_with(
-    g: &Listed<'_>,
+    g: &ReadableRules<'_>,
     key: &[u16; 2048],
     want: u16,
     start: usize,
     value: &[u8; 1025],
 ) -> Spot
-    requires told { Told (rules_lent g.now.rules) value.now key.now × (want ≤ 1) }
-    requires none_below { NoneBelow key.now (length g.now.rules.rows.now) want start }
-    ensures { Spotted (rules_lent g.now.rules) value.now key.now want result.found result.rule }
+    requires told { Told (rules_read g.now) value.now key.now × (want ≤ 1) }
+    requires none_below { NoneBelow key.now (length g.now.rows.now) want start }
+    ensures { Spotted (rules_read g.now) value.now key.now want result.found result.rule }
 {
+    let mut found = Found::Clear;
     let mut r = start;
     // Kept: a loop by hand, since it goes on by one rule or by sixteen.
-    while r < g.rules.rows.len() {
+    'rules: while r < g.rows.len() {
         if may_skip(key, r, want) {
             r += 16;
-            continue;
+            continue 'rules;
         }
         if differs(key, r, want) {
             r += 1;
-            continue;
+            continue 'rules;
         }
-        let found = found_at(g, key, want, r, value);
-        return Spot { found, rule: r };
+        let row = g.rows[r];
+        if row.body.is_weighted() {
+            found = weighed(g, key, want, r, value);
+            break 'rules;
+        }
+        let mid = row.body_first();
+        for k in usize::from(row.first)..mid + usize::from(row.literals) {
+            let rest = scan::left_at(g.pool, value, mid, k);
+            if !rest.is_all() {
+                found = rest.noted();
+                break 'rules;
+            }
+        }
+        found = Found::Broken(r);
+        break 'rules;
     }
-    Spot {
-        found: Found::Clear,
-        rule: r,
-    }
+    Spot { found, rule: r }
 }
 
 // The scan of the rules under the values of a trail, by their numbers.
-pub fn scan(g: &Listed<'_>, t: &Counters, value: &[u8; 1025]) -> ScanDone
-    requires told { Told (rules_lent g.now.rules) value.now t.now.key }
-    requires marked { MarksRight (length g.now.rules.rows.now) t.now }
-    ensures found { result.found ≡ scan_of (rules_lent g.now.rules) value.now }
-    ensures marked { MarksRight (length g.now.rules.rows.now) (counters t.now.key (marks t.now.marks.broken result.low result.zero t.now.marks.atom)) }
+pub fn scan(g: &ReadableRules<'_>, t: &Counters, value: &[u8; 1025]) -> ScanDone
+    requires told { Told (rules_read g.now) value.now t.now.key }
+    requires marked { MarksRight (length g.now.rows.now) t.now }
+    ensures found { result.found ≡ scan_of (rules_read g.now) value.now }
+    ensures marked { MarksRight (length g.now.rows.now) (counters t.now.key (marks t.now.marks.broken result.low result.zero t.now.marks.atom)) }
 {
     let m = t.marks;
     let s = first_with(g, &t.key, sought(m.broken), start(m), value);
     ScanDone {
         found: s.found,
         low: lowest(m, s.rule),
-        zero: lowest_zero(m, g.rules.rows.len(), s.rule),
+        zero: lowest_zero(m, g.rows.len(), s.rule),
     }
 }

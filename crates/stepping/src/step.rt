@@ -6,6 +6,7 @@ ghost use Rattle.search.specs.Branch.{Noted, lowest_of};
 ghost use Rattle.search.specs.Step.{test_by, test_of, stepped, step_of};
 ghost use Rattle.search.specs.Lent.{rules_lent, assumed_lent};
 ghost use Rattle.counting.specs.Counts.{Tracks};
+ghost use Rattle.counting.specs.Lent.{lists_lent};
 
 use crate::{scan, trail};
 use counting::counters::{Counters, Marks};
@@ -30,11 +31,12 @@ fn test_by(found: Found, w: &Wishes<'_>, trail: &Places, a: usize) -> Tested
 
 // The test of a trail; the marks rise with it.
 fn test(g: &Listed<'_>, w: &Wishes<'_>, trail: &Places, t: &mut Counters) -> Tested
-    requires { Tracks (rules_lent g.now.rules) g.now.lists.now trail.now.value t.old }
+    requires { Tracks (rules_lent g.now.rules) (lists_lent g.now.lists) trail.now.value t.old }
     ensures tested { result ≡ test_of (rules_lent g.now.rules) w.now.atoms (assumed_lent w.now) trail.now.value trail.now.len }
-    ensures tracks { Tracks (rules_lent g.now.rules) g.now.lists.now trail.now.value t.new }
+    ensures tracks { Tracks (rules_lent g.now.rules) (lists_lent g.now.lists) trail.now.value t.new }
 {
-    let s = scan::scan(g, t, &trail.value);
+    let rules = g.readable();
+    let s = scan::scan(&rules, t, &trail.value);
     let a = branch::lowest(&trail.value, w.atoms, t.marks.atom);
     t.marks = Marks {
         low: s.low,
@@ -50,14 +52,15 @@ pub fn step(g: &Listed<'_>, w: &Wishes<'_>, trail: &mut Places, t: &mut Counters
     requires atoms { w.now.atoms ≡ g.now.rules.atoms }
     requires formed { FormedSoft w.now.atoms (assumed_lent w.now) }
     requires good { Good trail.old }
-    requires tracks { Tracks (rules_lent g.now.rules) g.now.lists.now trail.old.value t.old }
+    requires tracks { Tracks (rules_lent g.now.rules) (lists_lent g.now.lists) trail.old.value t.old }
     ensures stepped { stepped result trail.new ≡ step_of (rules_lent g.now.rules) w.now.atoms (assumed_lent w.now) trail.old }
-    ensures tracks { Tracks (rules_lent g.now.rules) g.now.lists.now trail.new.value t.new }
+    ensures tracks { Tracks (rules_lent g.now.rules) (lists_lent g.now.lists) trail.new.value t.new }
 {
     let tested = test(g, w, trail, t);
+    let rules = g.weighable();
     match tested {
-        Tested::RuleBroken(_) | Tested::SoftViolated(_) => trail::back(g, trail, t),
-        Tested::Open(l) => trail::push(g, trail, t, l),
+        Tested::RuleBroken(_) | Tested::SoftViolated(_) => trail::back(&rules, trail, t),
+        Tested::Open(l) => trail::push(&rules, trail, t, l),
         Tested::Full => (),
     }
     tested

@@ -1,5 +1,5 @@
 use mathlib.Core.Path.{sym, ◌∙◌}
-use Rattle.stepping.proofs.MoveLaws.{back_next, back_here, back_none, dropped_shorter, dropped_len, taken_small, other_small}
+use Rattle.stepping.proofs.MoveLaws.{back_next, back_here, back_none, dropped_shorter, dropped_len, other_small}
 use Rattle.stepping.proofs.trail.back.Goals as goal
 
 pub put-requires : goal.put-requires

@@ -14,38 +14,38 @@ returns-in_err-read_number-clause-answer c =
 pub returns-in_err-add_rule-in-1-clause-answer : goal.returns-in_err-add_rule-in-1-clause-answer
 returns-in_err-add_rule-in-1-clause-answer c =
     let p = err_from_is_err_and c.from_residual-in_err-add_rule-in-1.result c.from_residual-in_err-add_rule-in-1.ensures.1 in
-    rw (p.1, p.2) (rule_stops c.requires.sound c.append_line-end.ensures (sym c.in_ok-read_number.ensures.answer) c.in-1.is _ c.in_err-add_rule-in-1.ensures)
+    rw (p.1, p.2) (rule_stops c.requires.sound c.append_line-end.ensures (sym c.in_ok-read_number.ensures.answer) c.in-1.is _ c.in_err-add_rule-in-1.ensures.0)
 
 pub returns-in_ok-add_rule-in-1 : goal.returns-in_ok-add_rule-in-1
 returns-in_ok-add_rule-in-1 c =
     let num = sym c.in_ok-read_number.ensures.answer in
     let added = c.in_ok-add_rule-in-1.ensures in
     let led = leads_at c.requires.sound c.append_line-end.ensures num _ Goes (ap lists_of added.1) (rule_goes c.requires.sound c.append_line-end.ensures num c.in-1.is _ added.0) in
-    record { answer = led.0; after = led.1 }
+    record { answer = led.0; after = led.1; stays = tt }
 
 pub returns-in_err-add_minimise-in-2-clause-answer : goal.returns-in_err-add_minimise-in-2-clause-answer
 returns-in_err-add_minimise-in-2-clause-answer c =
     let p = err_from_is_err_and c.from_residual-in_err-add_minimise-in-2.result c.from_residual-in_err-add_minimise-in-2.ensures.1 in
-    rw (p.1, p.2) (minimise_stops c.requires.sound c.append_line-end.ensures (sym c.in_ok-read_number.ensures.answer) c.in-2.is _ c.in_err-add_minimise-in-2.ensures)
+    rw (p.1, p.2) (minimise_stops c.requires.sound c.append_line-end.ensures (sym c.in_ok-read_number.ensures.answer) c.in-2.is _ c.in_err-add_minimise-in-2.ensures.0)
 
 pub returns-in_ok-add_minimise-in-2 : goal.returns-in_ok-add_minimise-in-2
 returns-in_ok-add_minimise-in-2 c =
     let num = sym c.in_ok-read_number.ensures.answer in
     let added = c.in_ok-add_minimise-in-2.ensures in
     let led = leads_at c.requires.sound c.append_line-end.ensures num _ Goes (ap lists_of added.1) (minimise_goes c.requires.sound c.append_line-end.ensures num c.in-2.is _ added.0) in
-    record { answer = led.0; after = led.1 }
+    record { answer = led.0; after = led.1; stays = tt }
 
 pub returns-in_err-add_symbol-in-4-clause-answer : goal.returns-in_err-add_symbol-in-4-clause-answer
 returns-in_err-add_symbol-in-4-clause-answer c =
     let p = err_from_is_err_and c.from_residual-in_err-add_symbol-in-4.result c.from_residual-in_err-add_symbol-in-4.ensures.1 in
-    rw (p.1, p.2) (symbol_stops c.requires.sound c.append_line-end.ensures (sym c.in_ok-read_number.ensures.answer) c.in-4.is _ c.in_err-add_symbol-in-4.ensures)
+    rw (p.1, p.2) (symbol_stops c.requires.sound c.append_line-end.ensures (sym c.in_ok-read_number.ensures.answer) c.in-4.is _ c.in_err-add_symbol-in-4.ensures.0)
 
 pub returns-in_ok-add_symbol-in-4 : goal.returns-in_ok-add_symbol-in-4
 returns-in_ok-add_symbol-in-4 c =
     let num = sym c.in_ok-read_number.ensures.answer in
     let added = c.in_ok-add_symbol-in-4.ensures in
     let led = leads_at c.requires.sound c.append_line-end.ensures num _ Goes (ap lists_of added.1) (symbol_goes c.requires.sound c.append_line-end.ensures num c.in-4.is _ added.0) in
-    record { answer = led.0; after = led.1 }
+    record { answer = led.0; after = led.1; stays = tt }
 
 pub add_symbol-requires-clause-sound : goal.add_symbol-requires-clause-sound
 add_symbol-requires-clause-sound c = symbol_ready c.requires.sound c.append_line-end.ensures
@@ -62,12 +62,12 @@ returns-in_err-read_end-in-0-clause-answer c =
 pub returns-in-0 : goal.returns-in-0
 returns-in-0 c =
     let led = final_leads c.requires.sound c.append_line-end.ensures (sym c.in_ok-read_number.ensures.answer) c.in-0.is c.in_ok-read_end-in-0.ensures in
-    record { answer = led.0; after = led.1 }
+    record { answer = led.0; after = led.1; stays = tt }
 
 pub returns-in-10 : goal.returns-in-10
 returns-in-10 c =
     let led = comment_leads c.requires.sound c.append_line-end.ensures (sym c.in_ok-read_number.ensures.answer) c.in-10.is in
-    record { answer = led.0; after = led.1 }
+    record { answer = led.0; after = led.1; stays = tt }
 
 pub returns-in_default-clause-answer : goal.returns-in_default-clause-answer
 returns-in_default-clause-answer c = unread_stops c.requires.sound c.append_line-end.ensures (sym c.in_ok-read_number.ensures.answer) (λ e. omega arith) (λ e. omega arith) (λ e. omega arith) (λ e. omega arith) (λ e. omega arith)

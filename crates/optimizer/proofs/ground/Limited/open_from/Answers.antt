@@ -2,7 +2,7 @@ use mir.Syntax.{w32}
 use mir.Val.{SFits}
 use Rattle.std.proofs.Common.{refl, pos, get_or, rules}
 use Rattle.advancing.specs.Source.{levels_lent}
-use Rattle.optimizer.proofs.Finishing.{entries_small, begun_formed, begun_is, open_yes, open_no}
+use Rattle.optimizer.proofs.Finishing.{entries_small, begun_is, open_yes, open_no}
 use Rattle.optimizer.proofs.ground.Limited.open_from.Goals as goal
 
 pub opened-w-requires : goal.opened-w-requires
@@ -10,12 +10,6 @@ opened-w-requires c = record { few = c.args.self.now.formed.few; atoms = entries
 
 pub returns-then-levels-w : goal.returns-then-levels-w
 returns-then-levels-w c = open_no (levels_lent c.args.self.now.objective) c.args.w.now c.args.j c.next_level-w.ensures.0 c.if-levels-w.true
-
-pub next_stratum-w-requires : goal.next_stratum-w-requires
-next_stratum-w-requires c =
-    let L = levels_lent c.args.self.now.objective in
-    let fits : SFits w32 (get_or L.levels c.next_level-w.result (pos 0)) = search rules in
-    begun_formed L c.next_level-w.result c.args.self.now.formed fits refl c.opened-w.ensures
 
 pub returns : goal.returns
 returns c =

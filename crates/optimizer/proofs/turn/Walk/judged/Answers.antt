@@ -1,7 +1,7 @@
 use Rattle.std.proofs.Common.{arith, ◌<◌, ◌≡◌, ℕ, List, ap, ◌∙◌}
 use Rattle.search.specs.declared.trail.Places.{Places}
 use Rattle.search.proofs.Kept.{after_back}
-use Rattle.stepping.proofs.StepLaws.{counted_back}
+use Rattle.stepping.proofs.StepLaws.{back_by, counted_back}
 use Rattle.indexing.proofs.Moving.{back_is}
 use Rattle.advancing.specs.declared.state.Judgement.{Judgement}
 use Rattle.advancing.specs.Turn.{judge_full, blamed_of, backed}
@@ -20,18 +20,20 @@ judged_is w e f = f ∙ ap (λ (ms : List ℕ). judge_full (source_lent w.query.
 pub invariant_of-self-in-Dead : goal.invariant_of-self-in-Dead
 invariant_of-self-in-Dead c =
     let w = c.args.self.now in
-    let e = back_is _ _ _ _ c.back.ensures in
-    record { good_blame = w.good_blame; sound_trail = after_back _ _ e w.sound_trail; tracks = counted_back w.query.now.ground.listed.indexed w.sound_trail.good w.tracks c.back.ensures }
+    let z = back_by c.weighable-rules.ensures.bodies c.weighable-rules.ensures.lists _ c.back.ensures in
+    let e = back_is _ _ _ _ z in
+    record { good_blame = w.good_blame; sound_trail = after_back _ _ e w.sound_trail; tracks = counted_back w.query.now.ground.listed.indexed w.sound_trail.good w.tracks z }
 
 pub invariant_of-self-in-Violated : goal.invariant_of-self-in-Violated
 invariant_of-self-in-Violated c =
     let w = c.args.self.now in
     let j = judged_is w c.blamed.ensures c.judge_full.ensures in
-    let e = back_is _ _ _ _ c.back-in-Violated.ensures in
+    let z = back_by c.weighable-rules.ensures.bodies c.weighable-rules.ensures.lists _ c.back-in-Violated.ensures in
+    let e = back_is _ _ _ _ z in
     record {
       good_blame = judged_good w.query.now.ready w.trail.now w.good_blame j c.in-Violated.is c.blame_place.ensures;
       sound_trail = after_back _ _ e w.sound_trail;
-      tracks = counted_back w.query.now.ground.listed.indexed w.sound_trail.good w.tracks c.back-in-Violated.ensures;
+      tracks = counted_back w.query.now.ground.listed.indexed w.sound_trail.good w.tracks z;
     }
 
 pub blame_place-requires-clause-place : goal.blame_place-requires-clause-place

@@ -17,13 +17,13 @@ invariant_of-ground c =
     let l = c.args.self.now in
     let lent = lent_is l.stored c.rules-rules.result c.limited-limited.result.objective c.rules-rules.ensures.atoms c.rules-rules.ensures.pool c.rules-rules.ensures.rows c.limited-limited.ensures in
     let prepared = subst (λ (S : Source). Prepared S l.prepared.conditions l.prepared.heads l.prepared.tried) (sym lent) (known_prepared c.requires) in
-    record { indexed = lists_indexed prepared.lists }
+    record { indexed = rw c.lent.ensures (lists_indexed prepared.lists) }
 
 pub invariant_of-ground-2 : goal.invariant_of-ground-2
 invariant_of-ground-2 c =
     let l = c.args.self.now in
     let lent = lent_is l.stored c.rules-rules.result c.limited-limited.result.objective c.rules-rules.ensures.atoms c.rules-rules.ensures.pool c.rules-rules.ensures.rows c.limited-limited.ensures in
-    record { ready = subst (λ (S : Source). Prepared S l.prepared.conditions l.prepared.heads l.prepared.tried) (sym lent) (known_prepared c.requires) }
+    record { ready = rw c.lent.ensures (subst (λ (S : Source). Prepared S l.prepared.conditions l.prepared.heads l.prepared.tried) (sym lent) (known_prepared c.requires)) }
 
 pub run-made-requires : goal.run-made-requires
 run-made-requires c =
