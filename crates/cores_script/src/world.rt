@@ -105,15 +105,19 @@ impl World {
         print_tables(rt, full, &self.tables)
     }
 
-    // What a set of n atoms violates.
+    // What a set of n atoms violates. An atom that the script lacks is 0, and so are those after it.
     pub fn weigh_set(&self, rt: &impl Print, n: usize, script: &mut Numbers) -> io::Result<()>
         ensures { length script.new.rest.now ≤ length script.old.rest.now }
     {
         // Kept: an array, since no program allocates.
         let mut model = [0u8; 1025];
         for _ in 0..n {
-            if let Some(b) = model.get_mut(script.due()) {
+            let atom = script.next();
+            if let Some(b) = model.get_mut(atom.unwrap_or(0)) {
                 *b = 1;
+            }
+            if atom.is_none() {
+                break;
             }
         }
         rt.println(measure::violated_weight(&self.tables, AtomSet { bytes: &model }))

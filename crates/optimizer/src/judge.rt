@@ -49,8 +49,7 @@ fn soft_or_wanted(j: Option<usize>) -> Judgement
     }
 }
 
-// The judgement of a full trail: by the rules and the costs on the first `level` levels, which are settled, and then by the soft literals, those that are blamed already
-// first.
+// The judgement of a full trail: by the rules and the costs on the settled levels, `level` of them, and then by the soft literals, those that are blamed already first.
 pub fn judge_full(
     full: &FullTrail<'_>,
     objective: &Objective<'_>,
@@ -73,7 +72,7 @@ pub fn judge_full(
 }
 
 impl Query<'_> {
-    // That of the query's trail.
+    // That of a trail of the query.
     pub fn judge_full(&self, blamed: &[u16], value: &[u8; 1025], counters: &Counters) -> Judgement
         requires inside { All (λ m. m < softs (query_lent self.now)) blamed.now }
         requires leaf { LeafFor self.now.ground value.now counters.now }

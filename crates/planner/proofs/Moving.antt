@@ -1,5 +1,6 @@
 -- Advance, look and write, from what their callees ensure. Assumes nothing.
-use mathlib.Core.Path.{◌≡◌, sym, ap, ap₂, ◌∙◌}
+use mathlib.Core.Path.{◌≡◌, refl, sym, ap, ap₂, ◌∙◌}
+use mathlib.Core.Bool.{Bool, true, false}
 use mathlib.Core.List.{List}
 use Prim.Native.Nat.{ℕ}
 use lib.IntN.{ℤ}
@@ -15,7 +16,7 @@ use Rattle.planner.specs.declared.service.Loaded.{Loaded}
 use Rattle.planner.specs.declared.service.Status.{Status}
 use Rattle.planner.specs.declared.advance.Count.{Count}
 use Rattle.planner.specs.Held.{Holding, source_of, status_of}
-use Rattle.planner.specs.Calls.{Says, gives, refuses, refuses_for, Outcome, outcome, advance_call, run_call, Seen, seen, given, seen_in, seen_of, level_seen, stratum_seen, look_call, fills, filling, filled_with, filled, write_call}
+use Rattle.planner.specs.Calls.{Says, gives, refuses, refuses_for, Outcome, outcome, advance_call, run_call, Seen, seen, given, front_of, seen_in, seen_of, level_seen, stratum_seen, look_call, fills, filling, filled_with, filled, write_call}
 use Rattle.planner.proofs.Filling.{fills_as}
 use Rattle.planner.proofs.Link.{levels_many, priorities_is}
 
@@ -39,6 +40,14 @@ advance_is (Some l) u e = ap stopped e
 
 pub look_is : (s : Holding) {l : Loaded} → s ≡ Some l → {v : Seen} → v ≡ seen_in l.stored l.search → outcome v s ≡ look_call s
 look_is s e d = ap (λ (v : Seen). outcome v s) (d ∙ ap seen_of (sym e))
+
+-- the front of what is given is what is given of the front
+pub front_given : (k : ℕ) (b : Bool) (xs : List ℤ) {us : Option (List ℤ)} → us ≡ given b xs → front_of k us ≡ given b (take k xs)
+front_given k b xs e = ap (front_of k) e ∙ go b
+  where
+    go : (b : Bool) → front_of k (given b xs) ≡ given b (take k xs)
+    go true = refl
+    go false = refl
 
 -- ---- write
 

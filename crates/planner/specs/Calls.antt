@@ -28,6 +28,7 @@ use Rattle.aspif.specs.declared.text.RefusedAt.{RefusedAt}
 use Rattle.planner.specs.declared.advance.Count.{Count}
 use Rattle.planner.specs.declared.look.InWork.{InWork}
 use Rattle.planner.specs.declared.look.View.{View}
+use Rattle.planner.specs.declared.look.Snapshot.{Snapshot}
 use Rattle.planner.specs.Held.{loaded, Holding, source_of, PreparedFor, symbol_of, status_of}
 
 -- ---- answers in document 01's numbers and values
@@ -161,6 +162,14 @@ upper_of (Some us) = Some us.now
 -- the figures of a view
 abbrev pub seen_view : View → Seen
 seen_view v = seen v.status v.advances v.priorities.now v.lowers.now (upper_of v.uppers) (level_of v.in_work) (stratum_of v.in_work)
+
+-- the figures of a snapshot: the places that count
+abbrev pub front_of : ℕ → Option (List ℤ) → Option (List ℤ)
+front_of k None = None
+front_of k (Some us) = Some (take k us)
+
+abbrev pub seen_snapshot : Snapshot → Seen
+seen_snapshot v = seen v.status v.advances (take v.levels v.priorities) (take v.levels v.lowers) (front_of v.levels v.uppers) (level_of v.in_work) (stratum_of v.in_work)
 
 -- "look gives status empty, all else 0 or absent"
 abbrev pub nothing_seen : Seen

@@ -1,7 +1,7 @@
 // Look: the figures.
 ghost use Rattle.std.specs.Prelude.{◌≡◌, ◌<◌, IsTrue};
 ghost use Rattle.advancing.specs.Facts.{has_model, is_in_work};
-ghost use Rattle.planner.specs.Calls.{outcome, seen_view, look_call, given, upper_of, level_of, stratum_of, level_seen, stratum_seen};
+ghost use Rattle.planner.specs.Calls.{outcome, seen_view, seen_snapshot, look_call, given, upper_of, level_of, stratum_of, level_seen, stratum_seen};
 
 use crate::service::{Service, Status};
 use advancing::state::Phase;
@@ -24,6 +24,18 @@ pub struct View<'a> {
     pub in_work: Option<InWork>,
 }
 
+// The same by value, to be kept while the service goes on: of the priorities and the bounds the first `levels` places count.
+#[derive(Clone, Copy)]
+pub struct Snapshot {
+    pub status: Status,
+    pub advances: u64,
+    pub levels: usize,
+    pub priorities: [i32; 9],
+    pub lowers: [i64; 8],
+    pub uppers: Option<[i64; 8]>,
+    pub in_work: Option<InWork>,
+}
+
 // There is a best model.
 pub fn has_model(p: Phase) -> bool
     ensures { result ≡ has_model p }
@@ -41,6 +53,16 @@ fn is_in_work(p: Phase) -> bool
 // "upper bound (the best model's costs, absent before one)"
 fn upper_bound<'a>(p: Phase, costs: &'a [i64]) -> Option<&'a [i64]>
     ensures { upper_of result ≡ given (has_model p) costs.now }
+{
+    if has_model(p) {
+        return Some(costs);
+    }
+    None
+}
+
+// The same, of all places.
+fn costs(p: Phase, costs: [i64; 8]) -> Option<[i64; 8]>
+    ensures { result ≡ given (has_model p) costs }
 {
     if has_model(p) {
         return Some(costs);
@@ -86,6 +108,34 @@ impl Service {
             priorities: &l.stored.levels[..count],
             lowers: &w.lowers[..count],
             uppers: upper_bound(q.phase, &w.uppers[..count]),
+            in_work: in_work(q.phase, w.level, w.stratum),
+        }
+    }
+
+    // The same, to be kept.
+    pub fn snapshot(&self) -> Snapshot
+        ensures { outcome (seen_snapshot result) self.now.held ≡ look_call self.now.held }
+    {
+        let Some(l) = &self.held else {
+            return Snapshot {
+                status: Status::Empty,
+                advances: 0,
+                levels: 0,
+                priorities: [0; 9],
+                lowers: [0; 8],
+                uppers: None,
+                in_work: None,
+            };
+        };
+        let q = &l.search;
+        let w = &q.work;
+        Snapshot {
+            status: Status::from(q.phase),
+            advances: q.advances,
+            levels: l.stored.counts.levels,
+            priorities: l.stored.levels,
+            lowers: w.lowers,
+            uppers: costs(q.phase, w.uppers),
             in_work: in_work(q.phase, w.level, w.stratum),
         }
     }
