@@ -17,7 +17,11 @@ impl Iterator for Numbers<'_> {
     ghost next_gives = { λ s r t. IfSome r (λ n. n ≤ 1000000000) × (length t.rest.now ≤ length s.rest.now) };
 
     fn next(&mut self) -> Option<usize> {
-        let from = self.rest.iter().position(|b| b.is_ascii_digit())?;
+        let Some(from) = self.rest.iter().position(|b| b.is_ascii_digit()) else {
+            // Passed over once, and not at each number that is due.
+            self.rest = &[];
+            return None;
+        };
         let more = &self.rest[from + 1..];
         let count = more
             .iter()
