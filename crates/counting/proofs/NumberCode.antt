@@ -2,10 +2,10 @@
 use mathlib.Core.Path.{◌≡◌, refl, sym, ap, ap₂, ◌∙◌}
 use mathlib.Core.Bool.{Bool, true, false, ◌&&◌}
 use mathlib.Core.List.{List, [], ◌∷◌}
-use Prim.Native.Nat.{ℕ, ◌+◌, ◌-◌, ◌*◌, ◌≤◌, ◌<◌, max}
+use Prim.Native.Nat.{ℕ, ◌+◌, ◌-◌, ◌≤◌, ◌<◌, max}
 use native.Mathlib.Omega.{arith}
 use lib.Dec.{eqb, ltb, leb}
-use borrow.Author.Tests.{eq-eqb, ne_eqb, le-leb, lt-leb, leb-true, leb-false}
+use borrow.Author.Tests.{le-leb, lt-leb, leb-true, leb-false}
 use lib.IntN.{ℤ, pos, nat_abs}
 use lib.ListN.{length, get_or, drop}
 use Rattle.asp.specs.declared.rules.Row.{Row}
@@ -19,7 +19,7 @@ use Rattle.asp.specs.Growth.{PairsFormed, RowPairs, pairs_of}
 use Rattle.search.specs.declared.scan.Rest.{Rest}
 use Rattle.search.specs.declared.scan.Rest.TheVariants.{All, One, Off}
 use Rattle.search.specs.Scan.{cond_at, meet_of, meets, head_conditions, head_rest, weighted_rest}
-use Rattle.search.specs.Weigh.{met_at, breaker_of, body_rest, both_rest}
+use Rattle.search.specs.Weigh.{met_at, breaker_of, body_rest}
 use Rattle.search.proofs.ScanLaws.{off_stays}
 use Rattle.asp.specs.declared.rules.RuleTable.{RuleTable}
 use Rattle.search.specs.Scan.{Readable}

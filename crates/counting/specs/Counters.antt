@@ -1,5 +1,5 @@
 -- A number for each rule, kept by every move: what a move does to the table. Assumes nothing: these are definitions.
-use Rattle.std.specs.Prelude.{◌≡◌, Bool, List, [], ◌∷◌, ℤ, ℕ, zero, suc, ◌+◌, ◌-◌, ◌*◌, ◌≤◌, ◌<◌, max, eqb, ltb, length, get_or, set}
+use Rattle.std.specs.Prelude.{Bool, List, [], ◌∷◌, ℤ, ℕ, zero, suc, ◌+◌, ◌-◌, ◌*◌, max, eqb, ltb, get_or, set}
 use Rattle.asp.specs.declared.rules.Row.{Row}
 use Rattle.asp.specs.Sets.{pick}
 use Rattle.asp.specs.Program.{Weighed}

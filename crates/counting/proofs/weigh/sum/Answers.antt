@@ -1,6 +1,5 @@
-use Prim.Native.Nat.{◌+◌}
 use borrow.Author.Rules.{rules}
-use lib.IntN.{pos, nat_abs}
+use lib.IntN.{pos}
 use lib.ListN.{get_or}
 use mir.Syntax.{w32}
 use mir.Val.{SFits}

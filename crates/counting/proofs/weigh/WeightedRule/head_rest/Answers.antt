@@ -1,4 +1,3 @@
-use borrow.Author.Rules.{rules}
 use Rattle.asp.specs.Tables.{is_choice}
 use Rattle.counting.proofs.NumberCode.{head_chosen, head_none, head_one}
 use Rattle.counting.proofs.weigh.WeightedRule.head_rest.Goals as goal
