@@ -1,5 +1,5 @@
 // The machine of a query. The program and the lists of its rules are lent; the trail, the rules' numbers and the blame are its own.
-ghost use Rattle.std.specs.Prelude.{◌≡◌, false, replicate};
+ghost use Rattle.std.specs.Prelude.{◌≡◌, false, length, replicate};
 ghost use Rattle.search.specs.Places.{SoundTrail, fresh_places};
 ghost use Rattle.search.specs.Lent.{rules_lent};
 ghost use Rattle.search.specs.Alone.{sound_trail-prop};
@@ -32,6 +32,7 @@ pub struct Machine<'a> {
     pub ghost wishes: { Wished listed.rules.atoms wished.now } by { Prim.hlevel props },
     pub ghost sound: { SoundTrail listed.rules.atoms trail } by { sound_trail-prop _ _ },
     pub ghost tracks: { Tracks (rules_lent listed.rules) (lists_lent listed.lists) trail.value counters },
+    pub ghost wide: { length listed.lists.rules.now ≡ 16385 },
 }
 
 impl<'a> Machine<'a> {

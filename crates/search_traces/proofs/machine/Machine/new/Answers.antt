@@ -1,3 +1,6 @@
+use mathlib.Core.Path.{ap, ◌∙◌}
+use lib.ListN.{length}
+use Rattle.counting.specs.declared.index.Index.{Index}
 use Rattle.search.proofs.Kept.{after_fresh}
 use Rattle.indexing.proofs.Moving.{sound_small_values}
 use Rattle.search_traces.proofs.Laws.{program_indexed}
@@ -13,4 +16,4 @@ pub fill-counters-requires-clause-small : goal.fill-counters-requires-clause-sma
 fill-counters-requires-clause-small c = sound_small_values (after_fresh 0 c.fresh-trail.ensures)
 
 pub invariant_of-result : goal.invariant_of-result
-invariant_of-result c = record { wishes = c.args.program.wishes; sound = after_fresh c.args.program.table.atoms c.fresh-trail.ensures; tracks = rw c.readable-rules.ensures at c.fill-counters.ensures }
+invariant_of-result c = record { wishes = c.args.program.wishes; sound = after_fresh c.args.program.table.atoms c.fresh-trail.ensures; tracks = rw c.readable-rules.ensures at c.fill-counters.ensures; wide = ap (λ (o : Index). length o.rules) c.lent.ensures ∙ c.requires.wide }
